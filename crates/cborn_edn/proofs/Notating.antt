@@ -27,20 +27,20 @@ next_push s [] t = refl
 next_push s (u ∷ ts) t = next_push (after s) ts t
 
 next_put : (f : Partial) (t : Tree) → next_in (put f t) ≡ after (next_in f)
-next_put f t = grind (arith, first, inside, next_push, top)
+next_put f t = grind (arith, next_push)
 
 around_put : (f : Partial) (t : Tree) → next_around (put f t) ≡ next_around f
 around_put f t = grind arith
 
 written_put : (f : Partial) (t : Tree) → written (put f t) ≡ (written f ++ separator (next_in f)) ++ shown t
-written_put f t = grind (arith, append_assoc, beginning, first, following, following_push, inside, next_after, next_in, separator, shown, top, written)
+written_put f t = grind (arith, append_assoc, following_push)
 
 tally_put : (s : Next) (n : ℕ) (ts : List Tree) (t : Tree) → tally s n (ts ++ t ∷ []) false ≡ tally s n ts true
 tally_put s n [] t = refl
 tally_put s n (u ∷ ts) t = tally_put (after s) (count_one s n) ts t
 
 lates_put : (f : Partial) (t : Tree) → lates false (put f t) ≡ lates true f
-lates_put f t = grind (arith, beginning, first, inside, late_in, lates, length, next_in, separator, tally_put, top, true, written)
+lates_put f t = grind (arith, tally_put)
 
 -- Texts that aren't UTF-8.
 
@@ -60,7 +60,7 @@ among_last [] t p h = inl h
 among_last (u ∷ ts) t p h = inr (among_last ts t p h)
 
 bad_put : (f : Partial) (t : Tree) (p : ℕ) → IsBadIn (put f t) p → IsBadIn f p ⊎ IsBadText t p
-bad_put f t p h1 = grind (arith, among_push, inl, inr, inside, top)
+bad_put f t p h1 = grind (arith, among_push)
 
 bad_before : (f : Partial) (t : Tree) (p : ℕ) → IsBadIn f p → IsBadIn (put f t) p
 bad_before (top ts) t p h = among_front ts t p h
@@ -68,7 +68,7 @@ bad_before (inside f o ts) t p (inl h) = inl h
 bad_before (inside f o ts) t p (inr h) = inr (among_front ts t p h)
 
 bad_last : (f : Partial) (t : Tree) (p : ℕ) → IsBadText t p → IsBadIn (put f t) p
-bad_last f t p h1 = grind (arith, among_last, inr, inside, top)
+bad_last f t p h1 = grind (arith, among_last)
 
 lowest_same : (P Q : ℕ → Type 0) (o : Option ℕ) → ((p : ℕ) → P p → Q p) → ((p : ℕ) → Q p → P p) → IsLowest P o → IsLowest Q o
 lowest_same P Q o h1 h2 h3 = grind arith
@@ -182,7 +182,7 @@ tally_one s n (t ∷ ts) = tally_one (after s) (count_one s n) ts
 
 counted_last : (s : Next) (ts : List Tree) (i : ℕ) (w : Width) (front old new : List Late) → IsCounted (next_after s ts) old new → old ≡ front ++ record { at = i; width = w; count = tally s 0 ts false } ∷ []
     → new ≡ front ++ record { at = i; width = w; count = tally s 0 ts true } ∷ []
-counted_last s ts i w front old new h1 h2 = grind (arith, false, is_counted, next_after, one_more, tally, tally_one, true)
+counted_last s ts i w front old new h1 h2 = grind (arith, tally_one)
 
 -- one more node begins
 counted_next : (f : Partial) (old new : List Late) → IsCounted (next_in f) old new → old ≡ lates false f → new ≡ lates true f
@@ -193,7 +193,7 @@ counted_next (inside f o ts) old new c h = c.0 (uncounted (first o) ts) ∙ h
 
 -- a count beyond that has no indicator
 late_low : (w : Width) (n : ℕ) → late_size w (low n) ≡ late_size w n
-late_low w n = grind (arith, eq-eqb, false, holds, late_size, le-ltb, least, least_is_eight, ltb, ltb-false, ltb-true, mark_for, opened, true)
+late_low w n = grind (arith, eq-eqb, le-ltb, least_is_eight, ltb-false, ltb-true)
 
 -- the indicator that is inserted where the container ends
 abbrev late_text : Opening → List Tree → List ℕ
@@ -222,7 +222,7 @@ sized_end f o ts old new out text ends ended e g =
     (r.0 ∙ e ∙ append-nil (lates true f), r.1 ∙ ap (λ l. l ++ ending (next_after (first o) ts)) g)
 
 shown_built : (o : Opening) (ts : List Tree) → Ends o ts → (beginning o ++ (late_text o ts ++ following (first o) ts)) ++ ending (next_after (first o) ts) ≡ shown (built o ts)
-shown_built o ts h1 = grind (arith, a_map, a_tag, an_array, append-nil, append_assoc, beginning, bracketed, built, chunks_joined, codes, count-trees, count_entries-entries, decimal, ended_size, ending, ending_plain, entries, following, in_chunks, indicator, item_texts, items_joined, joined_by, late_size, length, mark_for, mark_for_size, next_after, opened, pair_texts, paired, pairs_joined, plain_following, shown, trees)
+shown_built o ts h1 = grind (arith, append-nil, append_assoc, bracketed, chunks_joined, count-trees, count_entries-entries, ending_plain, items_joined, pairs_joined, plain_following)
 
 in_pairs : (ts : List Tree) (p : ℕ) → last_key ts ≡ None → (IsBadAmong (trees ts) p → IsBadInPairs (entries (paired ts)) p) × (IsBadInPairs (entries (paired ts)) p → IsBadAmong (trees ts) p)
 in_pairs [] p e = (λ h. h, λ h. h)
@@ -245,7 +245,7 @@ in_texts (Text q w x ∷ ts) p s =
 in_texts (_ ∷ ts) p s = absurd s.0
 
 bad_built : (o : Opening) (ts : List Tree) (p : ℕ) → Ends o ts → (IsBadAmong (trees ts) p → IsBadText (built o ts) p) × (IsBadText (built o ts) p → IsBadAmong (trees ts) p)
-bad_built o ts p h1 = grind (arith, a_map, a_tag, an_array, built, in_chunks, in_pairs, in_texts, inl, inr, no_bytes, trees)
+bad_built o ts p h1 = grind (arith, in_pairs, in_texts, no_bytes)
 
 -- What the visitor holds.
 
@@ -337,7 +337,7 @@ string_open v w f p k l n start o1 next around counted bad string sep out at h =
 -- more of it comes
 pub more_held : (v w : Notator) (f : Partial) (p : ℕ) (k : StringKind) (l : Width) (n : ℕ) (x y : List ℕ) (s : OpenString) → w.next ≡ v.next → w.around ≡ v.around → w.lates ≡ v.lates → w.bad ≡ v.bad → w.string ≡ v.string → v.string ≡ Some s
     → w.out.items ≡ v.out.items ++ content s.kind y → IsHeld v f (part p k l n x) → IsHeld w f (part p k l n (x ++ y))
-more_held v w f p k l n x y s h1 h2 h3 h4 h5 h6 h7 h8 = grind (arith, append_assoc, content, flat_map-append, hex_more, lates)
+more_held v w f p k l n x y s h1 h2 h3 h4 h5 h6 h7 h8 = grind (arith, append_assoc, flat_map-append, hex_more)
 
 -- the text of a string is whole
 
@@ -351,7 +351,7 @@ lowest_more : (P Q : ℕ → Type 0) (o : Option ℕ) (p : ℕ) → IsLowest P o
 lowest_more P Q o p h1 h2 h3 = grind arith
 
 lowest_string : (f : Partial) (k : StringKind) (p : ℕ) (l : Width) (x : List ℕ) (o : Option ℕ) (b : Bool) → is_good k (content k x) ≡ b → IsLowest (IsBadIn f) o → IsLowest (IsBadIn (put f (string_tree p k l x))) (if b then o else Some (lower o p))
-lowest_string f k p l x o b h1 h2 = grind (arith, bad_before, bad_last, bad_put, bad_string, false, inl, inr, lower, lowest_more, lowest_same, put, same_utf8, string_tree, true)
+lowest_string f k p l x o b h1 h2 = grind (arith, bad_before, bad_last, bad_put, bad_string, lowest_more, lowest_same, same_utf8)
 
 pub string_held : (v w : Notator) (f : Partial) (p : ℕ) (k : StringKind) (l : Width) (n : ℕ) (x : List ℕ) (s : OpenString) → v.string ≡ Some s → length x ≡ n → w.next ≡ after v.next → w.around ≡ v.around → w.lates ≡ v.lates
     → w.bad ≡ lowest_with v.bad s (drop s.start v.out.items) → (w.bad ≡ None → w.out.items ≡ v.out.items ++ string_end s.kind s.width s.len)

@@ -83,7 +83,7 @@ module _ {p : Profile} where
     fields_among (loose_fields {x = x} a two is) = with_more _ x (token a Comma ∷ []) (pairs_among is)
 
   pub text_among : {d : ℕ} {x : List Token} {ts : Trees} {l : List MeaningError} → IsText p d x ts l → Among (spots_all ts) x
-  text_among h1 = grind (arith, items, items_among, nothing)
+  text_among h1 = grind (arith, items_among)
 
 abbrev AreFrom : ℕ → List ℕ → Type 0
 AreFrom n xs = AllByRecursion (λ q. n ≤ q) xs

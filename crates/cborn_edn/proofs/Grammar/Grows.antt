@@ -5,14 +5,14 @@ use Rattle.cborn_edn.proofs.Grammar.Held.{after, deep_stack, deep_home, deep, co
 
 -- a token after a whole item
 after_grows : (st : Stack) (i : Item) (e : Class) (a : Span) → After (after st i e a) (Grows (held_stack st ++ tokens_of i) (max (max (deep_stack st) (levels st + depth i)) (reach (levels st) e)) (commas_stack st + commas i + 0) (token a e))
-after_grows st i e a = grind (arith, after-is, append_assoc, ends, ends_grow, held_nest, in_key, in_row, in_tag, in_value, row, tight, token, tokens_of, tokens_of_row_before)
+after_grows st i e a = grind (arith, after-is, append_assoc, ends_grow)
 
 after_string_grows : (h : Home) (ps : Pieces) (e : Class) (a : Span) → After (after_string h ps e a) (Grows (held_home h ++ tokens_of_pieces ps) (max (max (deep_home h) (levels_home h + depth_of_pieces ps)) (reach (levels_home h) e)) (commas_home h + commas_of_pieces ps + 0) (token a e))
-after_string_grows h ps e a = grind (arith, after_grows, append_assoc, as_chunk, as_item, string)
+after_string_grows h ps e a = grind (arith, after_grows, append_assoc)
 
 -- a bracket after a comma, or after nothing
 ends_loose_grow : (st : Stack) (e : Class) (a : Span) → After (ends_loose st e a) (Grows (held_stack st) (max (deep_stack st) (reach (levels st) e)) (commas_stack st + comma_in st e) (token a e))
-ends_loose_grow st e a = grind (arith, after-is, append_assoc, at_top, ends, ends_grow, in_array, in_embed, in_key, in_row, loose, token)
+ends_loose_grow st e a = grind (arith, after-is, append_assoc, ends_grow)
 
 begin_grows : (st : Stack) (e : Class) (a : Span) → After (begin st e a) (Grows (held_stack st) (max (deep_stack st) (reach (levels st) e)) (commas_stack st + comma_in st e) (token a e))
 begin_grows st e a = grind (arith, append-nil, ends_loose_grow, levels-deep)

@@ -88,7 +88,7 @@ pub with_piece-commas : (b : Option Pieces) (p : Piece) → commas_of_pieces (wi
 with_piece-commas b p = grind arith
 
 pub ends_grow : (n : Nest) (c : Content) (e : Class) (a : Span) → After (ends n c e a) (Grows (held_nest n ++ tokens_of_content c) (max (max (deep_nest n) (levels_nest n + depth_of_content c)) (reach (levels_nest n) e)) (commas_nest n + commas_of_content c) (token a e))
-ends_grow n c e a = grind (arith, append_assoc, embedded, held_home, in_array, in_embed, with_piece-commas, with_piece-depth, with_piece-tokens)
+ends_grow n c e a = grind (arith, append_assoc, with_piece-commas, with_piece-depth, with_piece-tokens)
 
 mutual
   pub levels-deep : (st : Stack) → levels st ≤ deep_stack st

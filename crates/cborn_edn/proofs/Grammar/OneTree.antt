@@ -92,7 +92,7 @@ has_goes : (p : Profile) (limit : ℕ) (ts : List Token) → HasTree p limit ts 
 has_goes p limit ts (us, l, h) = ([], (us, l, subst (λ x. IsText p limit x us l) (sym (append-nil ts)) h))
 
 pub no_tree : (p : Profile) (limit : ℕ) (ts : List Token) (s : State) → Leads ts s → finish s ≡ None → HasTree p limit ts → ⊥
-no_tree p limit ts s h1 h2 h3 = grind (arith, finish, finish-whole, no_some, parsed, run, same_Some, start, takes_all, whole)
+no_tree p limit ts s h1 h2 h3 = grind (arith, finish-whole, no_some, parsed, same_Some, takes_all, whole)
 
 pub nothing_goes : (p : Profile) (limit : ℕ) (f : List Token) (t : Token) (s : State) → Leads f s → step s t ≡ None → GoesOn p limit (f ++ (t ∷ [])) → ⊥
 nothing_goes p limit f t s e none g =

@@ -160,7 +160,7 @@ whole nothing = start
 whole (items r) = landed_row at_top r
 
 pub takes_input : (t : Input) (y : List Token) → then (tokens_of_input t ++ y) start ≡ then y (whole t)
-takes_input t y = grind (arith, at_top, items, nothing, takes_row)
+takes_input t y = grind (arith, takes_row)
 
 pub finish-whole : (t : Input) → finish (whole t) ≡ Some t
 finish-whole t = grind arith

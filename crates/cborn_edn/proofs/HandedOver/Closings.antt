@@ -25,7 +25,7 @@ pub hands_close : (s u : State) (f : Partial) (o : Opening) (ts : List Tree) →
 hands_close s u f o ts e stood ends few less is q = (less q, subst (λ (x : Partial). Comes Close x) (sym e) (stood, ends, few), ap (after Close 0 []) e ∙ is q)
 
 pub content_around : (st : Stack) (s : Span) (m : Mark) (c : Content) → front (content_state (in_array st s m) c) ≡ inside (front_of st) (an_array s.start (size_asked m) None) (listed_trees (nodes_in c))
-content_around st s m c = grind (arith, an_array, front_of, inside, listed_snoc, loose, node, nodes_before, row, size_asked, tight)
+content_around st s m c = grind (arith, listed_snoc)
 
 pub hands_array_end : (st : Stack) (s a : Span) (m : Mark) (c : Content) → count (nodes_in c) < 2 ^ 64 → Hands Close 0 [] (content_state (in_array st s m) c) (has st (array s m c a))
 hands_array_end st s a m c h1 = grind (arith, an_array, append_assoc, array, content_around, content_state, count, ended_size, faults, faults_before, faults_in, free, front_of, hands_close, has, in_array, listed_count, listed_trees, loose, no_left, no_right, nodes_in, noted, noted_stack, put, row, size_asked, size_ended, tight, trees-listed)
@@ -56,10 +56,10 @@ small_is p n v m e = integer_is p (is_below n v) (width m (argument_of n v)) (ar
 
 module _ (st : Stack) (a : Span) {place : ℕ} (p : place ≡ a.start) where
   pub hands_tag : (m : Mark) (v n : ℕ) (wide : Width) → (v < 2 ^ 64 → n ≡ v) → wide ≡ width m n → Hands (Tag wide n) place [] (wants st) (wants (in_tag st a v m))
-  hands_tag m v n wide h1 h2 = grind (arith, a_tag, free, front_of, inside, no_left, no_right, noted_stack, tag_small, width)
+  hands_tag m v n wide h1 h2 = grind (arith, free, no_left, no_right, tag_small)
 
   pub hands_integer : (n : Bool) (v : ℕ) (m : Mark) (below : Bool) (wide : Width) (argument : ℕ) → is_small n v ≡ true → below ≡ is_below n v → argument ≡ argument_of n v → wide ≡ width m argument → Hands (Integer below wide argument) place [] (wants st) (has st (number a n v m))
   hands_integer n v m below wide argument e b f w q = (no_left _ _ q, free st, (λ i. put (front_of st) (integer_tree (p i) (b i) ((w ∙ ap (width m) f) i) (f i))) ∙ ap (put (front_of st)) (small_is a.start n v m e))
 
   pub hands_bignum : (n : Bool) (v : ℕ) (m : Mark) (below : Bool) (argument : ℕ) → is_small n v ≡ false → below ≡ is_below n v → argument ≡ argument_of n v → Hands (Bignum below) place (digits_of 256 argument) (wants st) (has st (number a n v m))
-  hands_bignum n v m below argument h1 h2 h3 = grind (arith, argument_of, bignum, bignum_of, cond, digits_of, free, front_of, integer, no_left, put, width)
+  hands_bignum n v m below argument h1 h2 h3 = grind (arith, free, no_left)

@@ -12,7 +12,7 @@ fits_last [] t h k = (k, tt)
 fits_last (u ∷ ts) t h k = (h.0, fits_last ts t h.1 k)
 
 fits_put : (f : Partial) (t : Tree) → FitsSoFar f → Fits t → FitsSoFar (put f t)
-fits_put f t h1 h2 = grind (arith, fits_last, inside, top)
+fits_put f t h1 h2 = grind (arith, fits_last)
 
 ended_fits : (w : Width) (k : ℕ) → k < 2 ^ 64 → WidthFits (if holds w k then w else least k) k
 ended_fits w k h1 = grind arith
@@ -33,11 +33,11 @@ chunked_fits : (p : ℕ) (k : StringKind) (ts : List Tree) → AreStrings k ts �
 chunked_fits p k ts h1 h2 = grind (arith, chunks_fit)
 
 built_fits : (o : Opening) (ts : List Tree) → Ends o ts → AreFew o ts → OpeningFits o → FitsAll (trees ts) → Fits (built o ts)
-built_fits o ts h1 h2 h3 h4 = grind (arith, a_map, a_tag, an_array, chunked_fits, count-trees, count_entries-entries, ended_fits, holds, in_chunks, last_of, least, length, paired, paired_fit, trees)
+built_fits o ts h1 h2 h3 h4 = grind (arith, chunked_fits, count-trees, count_entries-entries, ended_fits, paired_fit)
 
 -- LAW: what is whole after an event fits
 pub fits_after : (event : Event) (p : ℕ) (x : List ℕ) (f : Partial) → EventFits event x → AreBytes x → length x < 2 ^ 64 → Comes event f → FitsSoFar f → FitsSoFar (after event p x f)
-fits_after event p x f h1 h2 h3 h4 h5 = grind (arith, built, built_fits, chunks_tree, false, fits_put, inside, least_holds, length, top, true)
+fits_after event p x f h1 h2 h3 h4 h5 = grind (arith, built_fits, fits_put, least_holds)
 
 -- What fits its width, since it is handed over only without a meaning error.
 
@@ -61,10 +61,10 @@ module _ (old new : Option MeaningError) (none : is_none new ≡ true) where
   none_new l noted = no_right (first_of old) l (none_after (first_of old) l (is_first old) noted)
 
   pub number_fits : (p : ℕ) (b : Bool) (n : ℕ) (m : Mark) → is_small b n ≡ true → Notes old new (number_errors p b n m) → WidthFits (width m (argument_of b n)) (argument_of b n)
-  number_fits p b n m h1 h2 = grind (arith, argument_of, is_absent, ltb-true, none_new, number_errors, unless, width_errors, width_fits)
+  number_fits p b n m h1 h2 = grind (arith, ltb-true, none_new, width_fits)
 
   pub tag_fits : (p : ℕ) (m : Mark) (n : ℕ) → Notes old new (tag_errors p m n) → (n < 2 ^ 64) × WidthFits (width m n) n
   tag_fits p m n noted = let t = tag_small p m n (none_new (tag_errors p m n) noted) in (t.0, width_fits p m n t.0 t.1)
 
   pub simple_fits : (p q : ℕ) (b : Bool) (n : ℕ) (m : Mark) → Notes old new (simple_errors p q b n m) → IsTrue (is_simple_value n) × (n < 256)
-  simple_fits p q b n m h1 = grind (arith, and_parts, held, is_below, is_simple, is_simple_value, nat_tests, no_left, none_new, not, simple_errors, true)
+  simple_fits p q b n m h1 = grind (arith, and_parts, nat_tests, no_left, none_new)

@@ -19,7 +19,7 @@ MayCome event x = Fits event x × AreBytes x × (length x < 2 ^ 64)
 
 -- an event leads from one state to the next
 pub followed : (h k : Holds) (event : Event) (place : ℕ) (x : List ℕ) (s u : State) → MayCome event x → Follows event place x h k → Hands event place x s u → Handed h s → Handed k u
-followed h k event place x s u h1 h2 h3 h4 = grind (arith, fits_after, front, no_part)
+followed h k event place x s u h1 h2 h3 h4 = grind (arith, fits_after)
 
 -- outside of each `<<`
 pub outside : (h k : Holds) (event : Event) (place : ℕ) (x : List ℕ) (s u : State) (ps : List Speller) (ss : List State) → is_nil ps ≡ true → MayCome event x → Follows event place x h k → Hands event place x s u → AllHanded h ps (s ∷ ss) → AllHanded k ps (u ∷ ss)

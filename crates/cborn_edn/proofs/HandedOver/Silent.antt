@@ -22,10 +22,10 @@ row_put (in_array st s m) ts t = refl
 row_put (in_embed home o s) ts t = refl
 
 pub handed_comma : (h : Holds) (n : Nest) (b : RowBefore) (i : Item) (a : Span) → Handed h (has (in_row n b) i) → Handed h (wants (in_row n (after_row (row b i) a)))
-handed_comma h n b i a h1 = grind (arith, after_row, append_assoc, handed_same, has, in_row, listed_snoc, listed_trees, node, nodes_before, row, row_front, row_put, wants)
+handed_comma h n b i a h1 = grind (arith, append_assoc, handed_same, listed_snoc, row_put)
 
 pub handed_pairs_comma : (h : Holds) (st : Stack) (s : Span) (m : Mark) (b : PairsBefore) (k : Item) (c : Span) (v : Item) (a : Span) → Handed h (has (in_value st s m b k c) v) → Handed h (wants (in_key st s m (after_pairs (pairs b k c v) a)))
-handed_pairs_comma h st s m b k c v a h1 = grind (arith, a_map, after_pairs, append_assoc, entries_before, front_of, handed_same, has, in_key, in_value, inside, listed_snoc_entry, node, pairs, size_asked, wants)
+handed_pairs_comma h st s m b k c v a h1 = grind (arith, append_assoc, handed_same, listed_snoc_entry)
 
 pub handed_open_simple : (h : Holds) (st : Stack) (a : Span) → Handed h (wants st) → Handed h (wants_number st a)
 handed_open_simple h st a = handed_same h (wants st) (wants_number st a) refl (λ q. q)
@@ -41,7 +41,7 @@ handed_join h home ps p = handed_same h (builds home ps) (builds home (also ps p
 
 -- one more piece of a string, which may be the first
 handed_piece : (h : Holds) (ps : List Speller) (home : Home) (o : Option Pieces) (p : Piece) → AllHanded h ps (at_home home o ∷ states_around_home home) → AllHanded h ps (builds home (with_piece o p) ∷ states_around (stack_of home))
-handed_piece h ps home o p h1 = grind (arith, as_chunk, as_item, builds, handed_join, handed_same, no_left, piece, states_around, stays, wants, wants_chunk)
+handed_piece h ps home o p h1 = grind (arith, handed_join, handed_same, no_left, stays)
 
 -- the states around a string
 pub around_string : (home : Home) (o : Option Pieces) → states_around (stack_in (at_home home o)) ≡ states_around_home home
@@ -52,4 +52,4 @@ piece_handed h ps qs home o p e t = subst (λ (l : List Speller). AllHanded h l 
 
 -- a `<<` ends, and its string goes on around it
 pub embed_closed : (h : Holds) (p : Speller) (ps : List Speller) (home : Home) (o : Option Pieces) (s : Span) (c : Content) (a : Span) (m : Mark) → AllHanded h (p ∷ ps) (content_state (in_embed home o s) c ∷ states_around (stack_in (content_state (in_embed home o s) c))) → AllHanded h ps (builds home (with_piece o (embedded s c a m)) ∷ states_around (stack_of home))
-embed_closed h p ps home o s c a m h1 = grind (arith, embedded, handed_piece, loose, row, tight)
+embed_closed h p ps home o s c a m h1 = grind (arith, handed_piece)

@@ -48,14 +48,14 @@ module _ (ps : Pieces) {j : Joint} {x : List ℕ} (is : j ≡ joint (str ps)) (s
   wide may_end h1 h2 h3 = grind (arith, known_here, length, mark_fits, meant, str, width)
 
   pub string_fits : (st : Stack) → noted (has st (string ps)) ≡ [] → length x < 2 ^ 64 → Fits (string_event j (length x)) x
-  string_fits st h1 h2 = grind (arith, false, faults_of_pieces, is_endless, length, no_left, no_right, noted_stack, str, true, wide, width)
+  string_fits st h1 h2 = grind (arith, no_left, no_right, wide)
 
   chunk_is : faults_of_pieces ps ≡ [] → string_tree j.place j.kind (width j.mark (length x)) x ≡ string_of (str ps).kind (chunk (str ps))
   chunk_is none = let content = meant none in λ i. string_tree (is i).place (is i).kind (width (is i).mark (length (content i))) (content i)
 
   module _ (st : Stack) (s a : Span) where
     pub hands_chunk : (b : StringsBefore) → Hands (chunk_event (record { place = s.start; kind = kind_before b }) j (length x)) j.place x (builds (as_chunk st s b) ps) (wants_chunk st s (after_strings (strings b ps) a))
-    hands_chunk b = grind (arith, after_strings, chunk, chunk_errors, chunk_is, chunks, faults_of_pieces, faults_of_strings, free, front_of, held, in_chunks, inside, kind_in, map, map-append, no_left, no_right, no_string, none_both, noted_stack, same_is, str, string_of, strings_held)
+    hands_chunk b = grind (arith, chunk_is, free, map-append, no_left, no_right, none_both, same_is, strings_held)
 
     pub chunk_fits : (b : StringsBefore) → noted (wants_chunk st s (after_strings (strings b ps) a)) ≡ [] → length x < 2 ^ 64 → Fits (chunk_event (record { place = s.start; kind = kind_before b }) j (length x)) x
     chunk_fits no_string q small = let own = no_right (noted_stack st) _ q in wide false (no_left _ _ own) (no_left _ _ (no_right (faults_of_pieces ps) _ own)) small
@@ -64,7 +64,7 @@ module _ (ps : Pieces) {j : Joint} {x : List ℕ} (is : j ≡ joint (str ps)) (s
         wide false (no_left _ _ own) (no_left (mark_errors false (str ps)) _ (no_right _ _ (no_right (faults_of_pieces ps) _ own))) small
 
 pub hands_chunks_end : (st : Stack) (s a e : Span) (ss : Strings) → Hands Close 0 [] (wants_chunk st s (after_strings ss a)) (has st (chunked s ss e))
-hands_chunks_end st s a e ss = grind (arith, after_strings, chunked, chunks, chunks_tree, free, front_of, hands_close, has, in_chunks, kind_in, map, node_of, put, string_of, strings_held, wants_chunk)
+hands_chunks_end st s a e ss = grind (arith, free, hands_close, node_of, strings_held)
 
 pub hands_text : (st : Stack) (a : Span) (x : List ℕ) (place : ℕ) (w : Width) → place ≡ a.start → w ≡ least (length x) → Hands (String OfText w) place x (wants st) (has st (text_item a x))
 hands_text st a x place w p e q = (no_left _ _ q, ((free st).0, takes (front_of st) OfText (free st)), (λ i. put (front_of st) (string_tree (p i) OfText (e i) x)) ∙ ap (put (front_of st)) (sym (text_node a x)))

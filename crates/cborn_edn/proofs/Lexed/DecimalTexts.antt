@@ -72,7 +72,7 @@ reads_number negative first body n m z h k d e = (
 )
 
 reads_tag : (first body : List ℕ) (n : ℕ) (m : Mark) (z : List ℕ) → IsMark m → AllDigits 10 body → integer false (first ++ body) ≡ Ok n → ReadsNumber false first (body ++ (indicator m ++ codes "(")) z (Read (TagOpen n m))
-reads_tag first body n m z h1 h2 h3 = grind (arith, codes, digits_pass, false, indicates, indicator, integer, is_numeral, mark_is, no_numeral, number_front, true)
+reads_tag first body n m z h1 h2 h3 = grind (arith, digits_pass, indicates, mark_is, no_numeral)
 
 pub number_text : (n : ℕ) (m : Mark) (z : List ℕ) → n < 2 ^ 65 → IsMark m → Closes z → Chained (decimal n ++ indicator m) z (token nowhere (Number false n m) ∷ [])
 number_text n m z l h k =

@@ -45,7 +45,7 @@ pair_tokens (entry k v es) b i j =
 -- Strings.
 
 string_text : (k : StringKind) (w : Width) (x : List ℕ) (p : ℕ) (z : List ℕ) → WidthFits w (length x) → AreBytes x → Closes z → Chained (shown_string k w x) z (tokens_of_pieces (chunk_pieces k (record { place = p; width = w; bytes = x })))
-string_text k w x p z h1 h2 h3 = grind (arith, bytes_text, is_mark, length, mark_for, text_text)
+string_text k w x p z h1 h2 h3 = grind (arith, bytes_text, is_mark, text_text)
 
 chunk_text : (k : StringKind) (c : Chunk) (z : List ℕ) → WidthFits c.width (length c.bytes) → AreBytes c.bytes → Closes z → Chained (shown_chunk k c) z (tokens_of_pieces (chunk_pieces k c))
 chunk_text k c z h b close = string_text k c.width c.bytes c.place z h b close
@@ -185,7 +185,7 @@ lines_close no_node z = closes 10 _ refl
 lines_close (more t ts) z = closes 44 _ refl
 
 line_text : (t : Tree) (ts : Trees) (z : List ℕ) → Fits t → Chained (further_lines ts ++ codes "\n") z (more_tokens ts) → Chained ((shown t ++ further_lines ts) ++ codes "\n") z (tokens_of (notated t) ++ more_tokens ts)
-line_text t ts z h1 h2 = grind (arith, append_assoc, both, codes, lines_close, node_text, notated, shown, tokens_of)
+line_text t ts z h1 h2 = grind (arith, append_assoc, both, lines_close, node_text)
 
 more_lines : (ts : Trees) (z : List ℕ) → FitsAll ts → Chained (further_lines ts ++ codes "\n") z (more_tokens ts)
 more_lines no_node z h = line z

@@ -19,7 +19,7 @@ pick a b = cond (leb (rank a) (rank b)) a b
 
 picked : (a b : MeaningError) → earlier (Some a) (Some b) ≡ Some (pick a b)
 unfolding pick rank
-picked a b = grind (arith, by_parts, cond, low_number, number_of, pick, rank)
+picked a b = grind (arith, by_parts, low_number, pick, rank)
 
 pick-first : (a b : MeaningError) → rank a ≤ rank b → pick a b ≡ a
 unfolding pick
@@ -37,7 +37,7 @@ earlier-none : (a : Option MeaningError) → earlier a None ≡ a
 earlier-none a = grind arith
 
 earlier-assoc : (a b c : Option MeaningError) → earlier (earlier a b) c ≡ earlier a (earlier b c)
-earlier-assoc a b c = grind (arith, earlier, earlier-none, pick, pick-assoc, picked)
+earlier-assoc a b c = grind (arith, earlier-none, pick, pick-assoc, picked)
 
 pub first-append : (a b : List MeaningError) → first_error (a ++ b) ≡ earlier (first_error a) (first_error b)
 first-append [] b = refl

@@ -68,7 +68,7 @@ number_sound p n v m d low h e = go (is_small n v) refl low e
 -- a string in one head
 pub string_sound : (g : Major) (may_end : Bool) (s : Str) (d : ℕ) → s.known ≡ true → mark_errors may_end s ≡ [] → AreBytes s.bytes
     → Sound (length s.bytes + 9) (string g (width s.mark (length s.bytes)) s.bytes) (WidthFits (width s.mark (length s.bytes)) (length s.bytes) × AreBytes s.bytes) 0 d
-string_sound g may_end s d h1 h2 h3 = grind (arith, bytes-append, false, head, head_short, is_endless, least_bytes, length, length-append, mark_fits, true, unless, width, width_bytes, width_errors)
+string_sound g may_end s d h1 h2 h3 = grind (arith, bytes-append, head_short, least_bytes, length-append, mark_fits, width_bytes)
 
 pub said_sound : (s : Str) (d : ℕ) → s.known ≡ true → string_errors s.lone s ≡ [] → AreBytes s.bytes → SoundNode (length s.bytes + 9) (said_string s) d
 said_sound s d known e h = go (s.lone && is_endless s.mark)
@@ -89,7 +89,7 @@ abbrev pub SoundChunks : Major → ℕ → List Chunk → Type 0
 SoundChunks g most cs = Sound most (flat_map (chunk_bytes g) cs) (ChunksFit cs) 0 0
 
 chunks_in : (g : Major) (first : ℕ) (most : ℕ) (cs : List Chunk) → first < 256 → SoundChunks g most cs → Sound (most + 2) ((first ∷ flat_map (chunk_bytes g) cs) ++ (255 ∷ [])) (ChunksFit cs) 0 0
-chunks_in g first most cs h1 h2 = grind (arith, bytes-append, chunk_bytes, flat_map, length-append)
+chunks_in g first most cs h1 h2 = grind (arith, bytes-append, length-append)
 
 pub chunked_sound : (k : StringKind) (p : ℕ) (cs : List Chunk) (most d : ℕ) → ((g : Major) → SoundChunks g most cs) → SoundNode (most + 2) (chunked_node k p cs) d
 chunked_sound OfBytes p cs most d h = let t = chunks_in ByteString 95 most cs (omega arith) (h ByteString) in record { bytes = t.bytes; few = t.few; fits = t.fits; low = omega arith }
@@ -97,7 +97,7 @@ chunked_sound OfText p cs most d h = let t = chunks_in TextString 127 most cs (o
 
 -- what an array's or a map's head and its end enclose
 pub enclosed_sound : (g : Major) (p : ℕ) (m : Mark) (n : ℕ) (y : List ℕ) (most deep d : ℕ) {Fit : Type 0} → size_errors p m n ≡ [] → n ≤ length y → Sound most y Fit deep d → Sound (most + 10) (head g (argument (size m n) n) ++ y ++ ending (size m n)) (SizeFits (size m n) n × Fit) (suc deep) (suc d)
-enclosed_sound g p m n y most deep d h1 h2 h3 = grind (arith, argument, bytes-append, ending, head, head_bytes, head_short, least_bytes, length-append, size, size_errors, size_fits, suc, width_bytes)
+enclosed_sound g p m n y most deep d h1 h2 h3 = grind (arith, bytes-append, head_bytes, head_short, least_bytes, length-append, size_fits, width_bytes)
 
 -- at most so many, and so more
 pub within : {most more : ℕ} {y : List ℕ} {Fit : Type 0} {deep limit : ℕ} → most ≤ more → Sound most y Fit deep limit → Sound more y Fit deep limit

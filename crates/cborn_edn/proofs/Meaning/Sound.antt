@@ -147,4 +147,4 @@ module _ {p : Profile} where
 
   -- LAW: what a text says
   pub text_sound : {d : ℕ} {x : List Token} {ts : Trees} → IsText p d x ts [] → AreModest x → SoundAll x ts d
-  text_sound h1 h2 = grind (arith, items, items_sound, nothing)
+  text_sound h1 h2 = grind (arith, items_sound)

@@ -6,7 +6,7 @@ use Rattle.cborn_edn.proofs.Reader.Showing.{Standing, standing, first_joint, byt
 
 -- the bytes with one more piece, which may be the first
 bytes_with : (l : List ℕ) (o : Option Pieces) (p : Piece) → (l ++ bytes_before o) ++ piece_bytes p ≡ l ++ pieces_bytes (with_piece o p)
-bytes_with l o p = grind (arith, append-nil, append_assoc, piece_bytes, pieces_bytes)
+bytes_with l o p = grind (arith, append-nil, append_assoc)
 
 module _ (here : Here) (w : Writer) (h : Home) (k : StringKind) (place : ℕ) (m : Mark) (q : Bool) (a : Span) (x base : List ℕ) (p : place ≡ a.start) (e : w.pieces.items ≡ base ++ x) where
   abbrev pub the_piece : Piece
@@ -30,11 +30,11 @@ module _ (here : Here) (w : Writer) (h : Home) (k : StringKind) (place : ℕ) (m
 
   pub first_added : (o : Option Pieces) (lone : Bool) → w.string ≡ None → (k ≡ OfText → q ≡ true) → ((y : List ℕ) → length w.pieces.items - w.start ≡ length y → lone ≡ (q && is_nil y)) → Shows here w base (at_home h o)
       → Shows (record here { phase = Builds }) (record w { string = Some (record { kind = k; place = place; mark = m; mark_place = place; lone = lone; known = true }) }) w.pieces.items (builds h (with_piece o the_piece))
-  first_added o lone h1 h2 h3 h4 = grind (arith, added, append-nil, bytes_around_home, first_error, first_joint, joint, length, length-append, noted_home, piece_str, standing, str, string)
+  first_added o lone h1 h2 h3 h4 = grind (arith, added, append-nil, first_joint, length-append, piece_str, standing)
 
   pub next_added : (o : Option Pieces) (j : Joint) (new : Option MeaningError) → w.string ≡ Some j → ((s t : Str) → j ≡ joint s → k ≡ t.kind → place ≡ t.place → Notes w.error new (piece_errors s t)) → Shows here w base (at_home h o)
       → Shows (record here { phase = Builds }) (record w { string = Some (record { kind = j.kind; place = j.place; mark = m; mark_place = place; lone = false; known = j.known }); error = new }) w.pieces.items (builds h (with_piece o the_piece))
-  next_added o j new h1 h2 h3 = grind (arith, added, append_assoc, faults_of_pieces, first_error, joint, known_joint, noted, noted_home, piece_errors, piece_str, same_Some, standing, str, str_of, string)
+  next_added o j new h1 h2 h3 = grind (arith, added, append_assoc, known_joint, piece_str, same_Some, standing)
 
 -- the kind of the chunks
 kind_first : (b : StringsBefore) (ps : Pieces) → kind_or (kind_before b) (str ps).kind ≡ kind_in (strings b ps)
@@ -45,7 +45,7 @@ same_same k = grind arith
 
 -- the meaning errors of one more chunk
 more_noted : (l : List MeaningError) (b : StringsBefore) (ps : Pieces) (k : StringKind) → k ≡ kind_in (strings b ps) → l ++ strings_noted b ++ faults_of_pieces ps ++ chunk_errors k (str ps) ≡ l ++ faults_of_strings (strings b ps)
-more_noted l b ps k h1 = grind (arith, after_strings, append-nil, append_assoc, chunk_errors, false, faults_of_pieces, faults_of_strings, no_string, same_same, str, string_errors, unless)
+more_noted l b ps k h1 = grind (arith, append-nil, append_assoc, same_same)
 
 -- where a string is open
 module _ {here : Here} {w : Writer} {h : Home} {ps : Pieces} (e : Shows here w w.pieces.items (builds h ps)) where

@@ -26,7 +26,7 @@ closed here next w mid new ps f st p k m es i h1 h2 h3 = grind arith
 -- an array or a map ends, and what is wrong with its indicator is noted
 pub closed_sized : (here next : Here) (w mid : Writer) (new : Option MeaningError) (ps : List Speller) (f : OpenBracket) (n : ℕ) (st : Stack) (p k : ℕ) (m : Mark) (es : List MeaningError) (i : Item) → AtEnd here w w.pieces.items k (bracket st p m ∷ brackets_of st) (arounds_of st) (noted_stack st ++ es) (bytes_around st)
     → Shut here w next mid f → n ≡ entries_at here.phase here.count → Notes mid.error new (size_errors f.place f.mark n) → faults i ≡ es ++ size_errors p m k → Shows next (record mid { error = new; spellers = ps }) mid.pieces.items (has st i)
-closed_sized here next w mid new ps f n st p k m es i h1 h2 h3 h4 h5 = grind (arith, append_assoc, bracket, brackets_of, closed, first_error, noted, noted_stack, size_errors)
+closed_sized here next w mid new ps f n st p k m es i h1 h2 h3 h4 h5 = grind (arith, append_assoc, closed)
 
 -- a `<<` opens
 pub embed_kept : (here next : Here) (w left : Writer) (ps : List Speller) (h : Home) (o : Option Pieces) (a : Span) (place from : ℕ) (all : List Around) → place ≡ a.start → from ≡ length w.pieces.items → all ≡ record { start = w.start; string = w.string; chunks = w.chunks; error = w.error } ∷ w.around
@@ -50,11 +50,11 @@ embed_kept here next w left ps h o a place from all p n k f l e =
 
 -- what a speller wrote of a `<<` without a meaning error
 pub content_spelled : (p : Speller) (h : Home) (o : Option Pieces) (s : Span) (c : Content) → Handed (IsWritten p) (content_state (in_embed h o s) c) → faults_in c ≡ [] → IsWritten p (top (listed_trees (nodes_in c))) no_part
-content_spelled p h o s c h1 h2 = grind (arith, listed_snoc, loose, no_part, node, nodes_before, row, tight, top)
+content_spelled p h o s c h1 h2 = grind (arith, listed_snoc)
 
 -- it has none, if none was noted in it
 pub content_known : (here next : Here) (w mid : Writer) (f : OpenBracket) (h : Home) (o : Option Pieces) (s : Span) (c : Content) → Shut here w next mid f → Shows here w w.pieces.items (content_state (in_embed h o s) c) → is_none mid.error ≡ true → faults_in c ≡ []
-content_known here next w mid f h o s c h1 h2 h3 = grind (arith, bracket, brackets_home, faults_in, in_content, in_embed, is_none, nil_is, none_first, stack_of)
+content_known here next w mid f h o s c h1 h2 h3 = grind (arith, in_content, nil_is, none_first)
 
 pub spelled_innermost : (all : List Speller) (p : Speller) (ps : List Speller) (s : State) → all ≡ p ∷ ps → IsSpelled all s → Handed (IsWritten p) s
 spelled_innermost all p ps s e t = subst (λ (l : List Speller). IsSpelled l s) e t

@@ -12,13 +12,13 @@ few_pairs no_pair = omega arith
 few_pairs (after_pairs (pairs b k d v) c) = omega (arith, few_pairs b, count-snoc_entry (entries_before b) (node k) (node v), length-append (tokens_of_pairs (pairs b k d v)) (token c Comma ∷ []), length-append (tokens_of_pairs_before b) (tokens_of k ++ (token d Colon ∷ tokens_of v)))
 
 few_in : (st : Stack) → count_of st ≤ length (held_stack st)
-few_in st = grind (arith, few_before, few_pairs, held_nest, held_stack, in_key, in_row, in_tag, in_value, length-append, token, tokens_of, tokens_of_pairs_before, tokens_of_row_before)
+few_in st = grind (arith, few_before, few_pairs, length-append)
 
 few_home : (h : Home) → count_of (stack_of h) ≤ length (held_home h)
-few_home h = grind (arith, as_chunk, as_item, few_in, held_stack, length-append, token, tokens_of_strings_before)
+few_home h = grind (arith, few_in, length-append)
 
 few_held : (s : State) → count_of (stack_in s) ≤ length (held s)
-few_held s = grind (arith, as_chunk, builds, few_home, few_in, has, has_number, held_home, held_stack, length-append, token, tokens_of, tokens_of_pieces, wants, wants_chunk, wants_number)
+few_held s = grind (arith, few_home, few_in, length-append)
 
 -- no more items or pairs than bytes were read
 pub shown_few : (profile : Profile) (limit : ℕ) (text : List ℕ) (here : Here) (w : Writer) (pieces : List ℕ) (s : State) → Reached profile limit text here.at s → Shows here w pieces s → here.count ≤ here.at
@@ -41,8 +41,8 @@ mutual
   home_levels (as_chunk st s b) = stack_levels st
 
 home_brackets : (h : Home) → length (brackets_of (stack_of h)) ≡ levels_home h
-home_brackets h = grind (arith, as_chunk, as_item, stack_levels)
+home_brackets h = grind (arith, stack_levels)
 
 -- there are as many open brackets as levels
 pub brackets_levels : (s : State) → length (brackets_of (stack_in s)) ≡ open_levels s
-brackets_levels s = grind (arith, builds, home_brackets, stack_levels)
+brackets_levels s = grind (arith, home_brackets, stack_levels)

@@ -60,7 +60,7 @@ module _ (p : Profile) (limit : ℕ) (text : List ℕ) (s : State) (r : Reached 
   lex = whole_text p text r.tokens r.between
 
   met : (o : Option Input) → finish s ≡ o → Meets p limit (length text) r.tokens (at_end (length text) o)
-  met o h1 = grind (arith, at_end, length, parse, parses, start)
+  met o h1 = grind (arith, parses)
 
   pub cut_short : finish s ≡ None → IsNoNotation p limit text (Refused (length text) UnexpectedEnd)
   cut_short e = inl (r.tokens, lex, met None e)

@@ -24,7 +24,7 @@ module _ (j : Joint) (s : Str) (e : j ≡ joint s) where
   mark_wide may_end size old new h1 h2 h3 h4 = grind arith
 
   pub mark_unknown : (may_end : Bool) (old : Option MeaningError) → is_endless j.mark ≡ false → j.known ≡ false → Notes old old (mark_errors may_end s)
-  mark_unknown may_end old h1 h2 = grind (arith, false, is_endless, none_noted, unless)
+  mark_unknown may_end old h1 h2 = grind (arith, none_noted)
 
   -- a piece after others
   pub piece_noted : (bare fits : Bool) (kind : StringKind) (place : ℕ) (t : Str) (old mid new : Option MeaningError) → kind ≡ t.kind → place ≡ t.place → bare ≡ is_absent j.mark → fits ≡ may_join j.kind kind

@@ -26,4 +26,4 @@ pub width_bytes : (k : Major) (p : ℕ) (m : Mark) (n : ℕ) → width_errors p 
 width_bytes k p m n h1 = grind arith
 
 pub one_digit : (x y z : List ℕ) (n : ℕ) → 0 < n → y ≡ x ++ digits_of 256 (n / 256) → z ≡ y ++ n % 256 ∷ [] → z ≡ x ++ digits_of 256 n
-one_digit x y z n h1 h2 h3 = grind (arith, append_assoc, digits_of, digits_of_step)
+one_digit x y z n h1 h2 h3 = grind (arith, append_assoc, digits_of_step)

@@ -42,7 +42,7 @@ first profile h1 c z t h2 h3 h4 = grind (arith, read, starts)
 
 -- no token begins an empty text
 none_begins : (profile : Profile) {n m : ℕ} {x y : List ℕ} {ts : List Token} → Covers profile n x ts m y → (t : Token) → x ≡ [] → ts ≡ t ∷ [] → ⊥
-none_begins profile h1 t h2 h3 = grind (arith, length, read)
+none_begins profile h1 t h2 h3 = grind (arith, read)
 
 -- LAW: the next token there ends the string
 pub next_ends : (profile : Profile) (text : List ℕ) (n m : ℕ) (t : Token) → NoPieceAt text n → TokensBetween profile text n m (t ∷ []) → EndsPieces t.class

@@ -48,10 +48,10 @@ abbrev pub InFields : Here → Writer → List ℕ → Stack → Span → Mark �
 InFields here writer written st s m f = AtEnd here writer written (count_entries (entries_in f)) (bracket st s.start m ∷ brackets_of st) (arounds_of st) (noted_stack st ++ faults_of_fields f) (bytes_around st)
 
 pub in_content : (here : Here) (writer : Writer) (written : List ℕ) (n : Nest) (c : Content) → Shows here writer written (content_state n c) → InContent here writer written n c
-in_content here writer written n c h1 = grind (arith, after_row, append_assoc, at_end, count-snoc, faults, faults_before, has, in_row, loose, no_item, node, nodes_before, noted_nest, row, tight, wants)
+in_content here writer written n c h1 = grind (arith, append_assoc, count-snoc)
 
 pub in_fields : (here : Here) (writer : Writer) (written : List ℕ) (st : Stack) (s : Span) (m : Mark) (f : Fields) → Shows here writer written (fields_state st s m f) → InFields here writer written st s m f
-in_fields here writer written st s m f h1 = grind (arith, after_pairs, append_assoc, at_end, count-snoc_entry, entries_before, faults, faults_before_pairs, has, in_key, in_value, loose_fields, no_pair, node, noted_stack, pairs, tight_fields, wants)
+in_fields here writer written st s m f h1 = grind (arith, append_assoc, count-snoc_entry)
 
 -- a comma was taken
 kept_comma : {here next : Here} {w : Writer} {written : List ℕ} (st to : Stack) (i : Item) → next.phase ≡ wanting to → next.level ≡ level_of to → next.count ≡ count_of to → brackets_of st ≡ brackets_of to → arounds_of st ≡ arounds_of to → bytes_around st ≡ bytes_around to → noted (has st i) ≡ noted (wants to) → Shows here w written (has st i) → Shows next w written (wants to)
@@ -70,10 +70,10 @@ kept_comma st to i phase level size brackets around bytes same e = record {
 }
 
 pub comma_shown : (here next : Here) (w : Writer) (written : List ℕ) (n : Nest) (b : RowBefore) (i : Item) (a : Span) → next.phase ≡ WantsMore → next.level ≡ here.level → next.count ≡ here.count + 1 → Shows here w written (has (in_row n b) i) → Shows next w written (wants (in_row n (after_row (row b i) a)))
-comma_shown here next w written n b i a h1 h2 h3 h4 = grind (arith, after_row, append_assoc, count, count-snoc, faults, faults_before, in_row, kept_comma, node, nodes_before, noted_nest, row, row_level)
+comma_shown here next w written n b i a h1 h2 h3 h4 = grind (arith, append_assoc, count-snoc, kept_comma, row_level)
 
 pub pair_comma_shown : (here next : Here) (w : Writer) (written : List ℕ) (st : Stack) (s c a : Span) (m : Mark) (b : PairsBefore) (k v : Item) → next.phase ≡ WantsMore → next.level ≡ Key → next.count ≡ here.count + 1 → Shows here w written (has (in_value st s m b k c) v) → Shows next w written (wants (in_key st s m (after_pairs (pairs b k c v) a)))
-pair_comma_shown here next w written st s c a m b k v h1 h2 h3 h4 = grind (arith, after_pairs, append_assoc, count, count-snoc_entry, entries_before, faults, faults_before_pairs, in_key, in_value, kept_comma, node, noted_stack, pairs)
+pair_comma_shown here next w written st s c a m b k v h1 h2 h3 h4 = grind (arith, append_assoc, count-snoc_entry, kept_comma)
 
 pub colon_shown : (here next : Here) (w : Writer) (written : List ℕ) (st : Stack) (s c : Span) (m : Mark) (b : PairsBefore) (k : Item) → next.phase ≡ Wants → next.level ≡ Value → next.count ≡ here.count → Shows here w written (has (in_key st s m b) k) → Shows next w written (wants (in_value st s m b k c))
 colon_shown here next w written st s c m b k p l q e = kept_comma (in_key st s m b) (in_value st s m b k c) k p l (q ∙ e.count) refl refl refl refl e

@@ -41,7 +41,7 @@ pub record Standing (here : Here) (writer : Writer) (h : Home) (o : Option Piece
   pub pieces : written ≡ bytes_around_home h ++ bytes_before o
 
 pub standing : (here : Here) (writer : Writer) (h : Home) (o : Option Pieces) (written : List ℕ) → Shows here writer written (at_home h o) → Standing here writer h o written
-standing here writer h o written h1 = grind (arith, append-nil, as_chunk, as_item, bytes_around, noted_home, noted_stack, same_errors)
+standing here writer h o written h1 = grind (arith, append-nil, same_errors)
 
 -- what the string of one piece is
 pub piece_str : (k : StringKind) (a : Span) (q : Bool) (x : List ℕ) (m : Mark) → let p = piece_of k a q x m in let t = str_of p in (piece_bytes p ≡ x) × (faults_of_piece p ≡ []) × (t.known ≡ true) × (t.mark ≡ m) × (t.mark_place ≡ a.start) × (k ≡ t.kind) × (a.start ≡ t.place)

@@ -18,7 +18,7 @@ module _ (p : Profile) (text : List ℕ) (are : AreBytes text) (here : Here) (w 
   ReadToken n v t = (content : List ℕ) × TokensBetween p text here.at t.stop (record { start = t.start; stop = t.stop; class = class_of t.kind n content } ∷ []) × AreModest (record { start = t.start; stop = t.stop; class = class_of t.kind n content } ∷ []) × (v.pieces.items ≡ w.pieces.items ++ content_of (class_of t.kind n content))
 
   pub token_read : (o : Option BareToken) (n : ℕ) (v : Writer) (t : BareToken) → IsNextBareToken p text here.at o n w.pieces.items v.pieces.items → o ≡ Some t → ReadToken n v t
-  token_read o n v t h1 h2 = grind (arith, between_modest, class_of, content_of)
+  token_read o n v t h1 h2 = grind (arith, between_modest)
 
 module _ {h : Holds} (p : Profile) (limit : ℕ) (text : List ℕ) (are : AreBytes text) (here : Here) (w : Writer) (r : IsReadTo h p limit text here w) where
   -- with nothing left of the text

@@ -111,7 +111,7 @@ module _ {h : Holds} {p : Profile} {limit : ℕ} {text : List ℕ} {here : Here}
 
     -- from the state that is shown
     pub taken_from : (s u : State) → s ≡ r.state → step_by s c (span_at here.at stop) ≡ Some u → Reads k next left left.pieces.items u → forbids p (comma_at s c) ≡ false → reach (open_levels s) c ≤ limit → IsReadTo k p limit text (record next { at = stop }) left × (here.at < stop)
-    taken_from s u h1 h2 h3 h4 h5 = grind (arith, comma_at, false, forbids, open_levels, reach, step_by, taken)
+    taken_from s u h1 h2 h3 h4 h5 = grind (arith, taken)
 
     -- LAW: where an item is wanted
     pub item_taken : (here.phase ≡ phases.Wants) ⊎ (here.phase ≡ phases.WantsMore) → (v : Stack → State) → ((st : Stack) → step_by (wants st) c (span_at here.at stop) ≡ Some (v st)) → ((st : Stack) → Reads h here w w.pieces.items (wants st) → Reads k next left left.pieces.items (v st)) → ((st : Stack) → comma_in st c ≡ 0)

@@ -49,7 +49,7 @@ separator_handed h false (in_value st s m b k c) i a ps u is t = led h ps (wants
 separator_handed h false _ i a ps u is t = none_led u is
 
 pub paren_handed : (h : Holds) (st : Stack) (s b : Span) (n : Bool) (v : ℕ) (m : Mark) (c : Class) (a : Span) → StaysHanded h (has_number st s b n v m) c a
-paren_handed h st s b n v m c a = grind (arith, handed_close_simple, has, has_number, led, none_led, simple, states_around, stays)
+paren_handed h st s b n v m c a = grind (arith, handed_close_simple, led, none_led, stays)
 
 -- what was handed over in a `<<`, to its speller
 pub spelled_in : (h : Holds) (ps : List Speller) (s v : State) (ss : List State) → AllHanded h ps (s ∷ v ∷ ss) → IsSpelled ps s
@@ -148,7 +148,7 @@ no_content kind n x h1 = grind arith
 
 -- a token that is no piece appends nothing
 pub shown_kind : {holds : Holds} (kind : Kind) (number : ℕ) (here : Here) (writer : Writer) (s : State) (base : List ℕ) (c : Class) → is_piece kind ≡ false → Ready holds kind number here writer s base c → Reads holds here writer writer.pieces.items s
-shown_kind kind number here writer s base c h1 h2 = grind (arith, append-nil, content_of, no_content)
+shown_kind kind number here writer s base c h1 h2 = grind (arith, append-nil, no_content)
 
 pub bare_taken : {h : Holds} (k : Holds) (kind : Kind) (number place : ℕ) (here next : Here) (writer left : Writer) (ok : Bool) (t s : State) → is_piece kind ≡ false → t ≡ s → Turns h k kind number place here writer next left ok t → Takes h k kind number place here writer next left ok s
 bare_taken {h = h} k kind number place here next writer left ok t s none e f = subst (λ (u : State). Takes h k kind number place here writer next left ok u) e (λ base c a p r. f c r.stands.content a p r.stands.class (shown_kind kind number here writer t base c none r))
@@ -168,7 +168,7 @@ adding {h = h} kind number place here next writer left s none f base c a p r =
 
 -- the bytes of the innermost string begin in what was read
 pub start_inside : {h : Holds} (kind : Kind) (number : ℕ) (here : Here) (writer : Writer) (s : State) (base : List ℕ) (c : Class) → takes_no_piece here.phase ≡ false → Ready h kind number here writer s base c → writer.start ≤ length writer.pieces.items
-start_inside kind number here writer s base c h1 h2 = grind (arith, adds, bytes_around_home, bytes_before, content_of, length, length-append, standing, takes_no_piece)
+start_inside kind number here writer s base c h1 h2 = grind (arith, adds, length-append, standing)
 
 -- where a chunk is wanted, no other token is taken
 pub no_chunk : (s : State) (c : Class) (a : Span) → phase_of s ≡ phases.WantsChunk → EndsPieces c → step_by s c a ≡ None

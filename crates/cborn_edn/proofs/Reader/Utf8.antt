@@ -49,7 +49,7 @@ escape_below : (e : ℕ) → e < 128 → escape_code e < 128
 escape_below e h = grind arith
 
 hexes : (a b c d : ℕ) → are_hex a b c d ≡ true → (a < 128) × (b < 128) × (c < 128) × (d < 128) × (code a b c d < 2 ^ 16)
-hexes a b c d h1 = grind (arith, and_parts, digit_ascii, digit_value, is_digit, ltb-true)
+hexes a b c d h1 = grind (arith, and_parts, digit_ascii, ltb-true)
 
 four_ascii : (a b c d : ℕ) (x : List ℕ) → (a < 128) × (b < 128) × (c < 128) × (d < 128) × (code a b c d < 2 ^ 16) → IsAscii x → IsAscii (92 ∷ 117 ∷ a ∷ b ∷ c ∷ d ∷ x)
 four_ascii a b c d x h k = IsAscii-cons 92 (117 ∷ a ∷ b ∷ c ∷ d ∷ x) (omega arith) (IsAscii-cons 117 (a ∷ b ∷ c ∷ d ∷ x) (omega arith) (IsAscii-cons a (b ∷ c ∷ d ∷ x) h.0 (IsAscii-cons b (c ∷ d ∷ x) h.1 (IsAscii-cons c (d ∷ x) h.2 (IsAscii-cons d x h.3 k)))))

@@ -11,10 +11,10 @@ use Rattle.cborn_edn.proofs.Shown.Lowests.{utf8_is}
 
 each_low : passes (λ b. ltb 0 (length (escaped b)) && is_low (escaped b)) 0 128 ≡ true
 unfolding encode_with
-each_low  = grind (arith, encode_with)
+each_low  = grind arith
 
 escaped_low : (b : ℕ) → b < 128 → IsAscii (escaped b) × (0 < length (escaped b))
-escaped_low b h1 = grind (arith, and_parts, each_low, escaped, is_low, length, low_ascii, ltb, ltb-true, passes_at)
+escaped_low b h1 = grind (arith, and_parts, each_low, low_ascii, ltb-true, passes_at)
 
 -- a byte that isn't ASCII stands for itself
 plain : (b : ℕ) → 128 ≤ b → escaped b ≡ b ∷ []
@@ -157,7 +157,7 @@ is_text nodes text fits shown = is_utf8-from_IsUtf8 text shown.0
 -- Nodes that fit, one after another.
 
 pub fits_more : (xs : List Tree) (i : ℕ) (x : Tree) → i < length xs → x ≡ get_or xs i x → FitsAll (trees (take i xs)) → Fits x → FitsAll (trees (take (i + 1) xs))
-fits_more xs i x h1 h2 h3 h4 = grind (arith, fits_last, take, take_more, trees)
+fits_more xs i x h1 h2 h3 h4 = grind (arith, fits_last, take_more)
 
 pub fits_whole : (xs : List Tree) (i : ℕ) → length xs ≤ i → FitsAll (trees (take i xs)) → FitsAll (trees xs)
 fits_whole xs i h all = subst (λ ys. FitsAll (trees ys)) (take_all i xs h) all

@@ -10,7 +10,7 @@ each_chunk k [] = refl
 each_chunk k (c ∷ cs) = ap (λ l. shown_chunk k c ∷ l) (each_chunk k cs)
 
 chunks : (k : StringKind) (cs : List Chunk) → shown_chunks k (unplaced_chunks cs) ≡ shown_chunks k cs
-chunks k cs = grind (arith, codes, each_chunk, joined_by)
+chunks k cs = grind (arith, each_chunk)
 
 mutual
   same_node : (t : Tree) → shown (unplaced t) ≡ shown t
