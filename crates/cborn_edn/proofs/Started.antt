@@ -26,12 +26,6 @@ bytes_aside t xs ts h1 = grind (arith, none_among)
 number_among : (a : Token) (n : Bool) (v : ℕ) (m : Mark) → Among (spots (number_node a.start n v m)) (a ∷ [])
 number_among a n v m = grind arith
 
-string_alone : (k : StringKind) (p : ℕ) (w : Width) (x : List ℕ) → spots (string_node k p w x) ≡ p ∷ []
-string_alone k p w x = grind arith
-
-empty_alone : (k : StringKind) (p : ℕ) → spots (chunked_node k p []) ≡ p ∷ []
-empty_alone k p = grind arith
-
 said_alone : (s : Str) → spots (said_string s) ≡ s.place ∷ []
 said_alone s = grind arith
 

@@ -284,12 +284,6 @@ module _ (q : ℕ) (tail old mid : List ℕ) (at : ℕ) (quote : Quote q) (s : L
 
 -- an escape that fails fails in a shorter text too
 
-low_fails : (n : ℕ) (x z : List ℕ) → paired n (low_code (x ++ z)) ≡ None → paired n (low_code x) ≡ None
-low_fails n x z h1 = grind arith
-
-unit_chosen : (a b : Bool) (u v w : Option (ℕ × ℕ)) → (v ≡ None → u ≡ None) → cond a v w ≡ None → cond a u w ≡ None
-unit_chosen a b u v w h1 h2 = grind arith
-
 unit_fails : (b : Bool) (n : ℕ) (x z : List ℕ) → unit_from (cond b (Some n) None) (x ++ z) ≡ None → unit_from (cond b (Some n) None) x ≡ None
 unit_fails b n x z h1 = grind arith
 

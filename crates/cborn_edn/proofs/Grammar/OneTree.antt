@@ -21,12 +21,6 @@ one_tree p q ts t u g h =
     let same : Some (whole t) ≡ Some (whole u) = sym (takes_all t) ∙ ap (λ l. run l (Some start)) (g.is ∙ sym h.is) ∙ takes_all u in
     same_Some _ _ (sym (finish-whole t) ∙ ap finish (same_Some _ _ same) ∙ finish-whole u)
 
-deep-landed : (st : Stack) (i : Item) → deep (landed st i) ≡ max (deep_stack st) (levels st + depth i)
-deep-landed st i = grind arith
-
-commas-landed : (st : Stack) (i : Item) → commas_held (landed st i) ≡ commas_stack st + commas i
-commas-landed st i = grind arith
-
 deep-whole : (t : Input) → deep (whole t) ≡ depth_of_input t
 deep-whole t = grind arith
 

@@ -20,10 +20,6 @@ pub record Closes (z : List ℕ) : Type 0 where
 pub closes : (c : ℕ) (z : List ℕ) → ((((is_word c || is_numeral c) || eqb c 95) || eqb c 40) || eqb c 39) ≡ false → Closes (c ∷ z)
 closes c z h1 = grind arith
 
--- an indicator that the notation has: never a direct width
-wide_or_none : (b : Bool) (w : Width) → IsMark (Wide w) → IsMark (cond b Absent (Wide w))
-wide_or_none b w h1 = grind arith
-
 pub is_mark : (w : Width) (n : ℕ) → WidthFits w n → IsMark (mark_for w n)
 is_mark w n h1 = grind arith
 

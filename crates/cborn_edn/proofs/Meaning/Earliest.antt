@@ -21,14 +21,6 @@ picked : (a b : MeaningError) → earlier (Some a) (Some b) ≡ Some (pick a b)
 unfolding pick rank
 picked a b = grind (arith, by_parts, low_number, pick, rank)
 
-pick-first : (a b : MeaningError) → rank a ≤ rank b → pick a b ≡ a
-unfolding pick
-pick-first a b h1 = grind (arith, pick)
-
-pick-second : (a b : MeaningError) → rank b < rank a → pick a b ≡ b
-unfolding pick
-pick-second a b h1 = grind (arith, pick)
-
 pick-assoc : (a b c : MeaningError) → pick (pick a b) c ≡ pick a (pick b c)
 unfolding pick rank
 pick-assoc a b c = grind (arith, pick, rank)
@@ -86,9 +78,6 @@ both_noted old mid new l m h k before e = k (before ++ l) (h before e) ∙ ap fi
 -- the first of those before and of others is noted
 pub earlier_noted : (old new other : Option MeaningError) (l : List MeaningError) → other ≡ first_error l → new ≡ earlier old other → Notes old new l
 earlier_noted old new other l e f before g = f ∙ ap (λ o. earlier o other) g ∙ ap (earlier (first_error before)) e ∙ sym (first-append before l)
-
-none_earlier : (s : MeaningError) (o : Option MeaningError) → is_none (earlier (Some s) o) ≡ false
-none_earlier s o = grind arith
 
 -- whether there is a meaning error, by the first
 pub none_first : (l : List MeaningError) → is_none (first_error l) ≡ is_nil l

@@ -18,9 +18,6 @@ nil_is l h1 = grind arith
 pub held : (b : Bool) (p : ℕ) (r : EdnReason) → unless b p r ≡ [] → b ≡ true
 held b p r h1 = grind arith
 
-pub holds_is : (w : Width) (n : ℕ) → holds w n ≡ true → WidthFits w n
-holds_is w n h1 = grind arith
-
 pub width_fits : (p : ℕ) (m : Mark) (n : ℕ) → n < 2 ^ 64 → width_errors p m n ≡ [] → WidthFits (width m n) n
 width_fits p m n h1 h2 = grind arith
 

@@ -94,9 +94,6 @@ module _ (profile : Profile) (limit : ℕ) (text : List ℕ) (at : ℕ) (s : Sta
 pub free_none : (p : Profile) → forbids p 0 ≡ false
 free_none p = grind arith
 
-open_free : (p : Profile) (s : State) (k : Kind) (n : ℕ) (x : List ℕ) → is_closing k ≡ false → forbids p (comma_at s (class_of k n x)) ≡ false
-open_free p s k n x h1 = grind arith
-
 -- no bracket ends there after a comma
 pub tight_free : (p : Profile) (s : State) (k : Kind) (n : ℕ) (x : List ℕ) → (phase_of s ≡ WantsMore → ⊥) → forbids p (comma_at s (class_of k n x)) ≡ false
 tight_free p s k n x h1 = grind arith

@@ -72,10 +72,6 @@ row_at _ e = never e
 pub no_comma : (st : Stack) (i : Item) (a : Span) → is_in levels.Value (level_of st) ≡ false → is_row (level_of st) ≡ false → step_by (has st i) Comma a ≡ None
 no_comma st i a h1 h2 = grind arith
 
--- a bracket of a known kind is open
-brackets_open : (st : Stack) → (level_of st ≡ levels.Outside → ⊥) → 0 < length (brackets_of st)
-brackets_open st h1 = grind arith
-
 pub is_open : (f : Level → Bool) (here : Here) (w : Writer) (out : List ℕ) (s : State) → f levels.Outside ≡ false → f here.level ≡ true → Shows here w out s → 0 < length w.brackets
 is_open f here w out s h1 h2 h3 = grind arith
 

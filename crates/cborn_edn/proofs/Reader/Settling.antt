@@ -6,9 +6,6 @@ use Rattle.cborn_edn.proofs.Reader.NextPieces.{next_ends}
 use Rattle.cborn_edn.proofs.Grammar.Takes.{ended_same}
 use Rattle.cborn_edn.proofs.Reader.Showing.{same_errors}
 
-checked_same : (p : Profile) (limit : ℕ) (s v : State) (t : Token) (o : Option State) → comma_at s t.class ≡ comma_at v t.class → checked p limit s t o ≡ checked p limit v t o
-checked_same p limit s v t o h1 = grind arith
-
 finish_same : (st : Stack) (ps : Pieces) → finish (builds (as_item st) ps) ≡ finish (has st (string ps))
 finish_same st ps = grind arith
 

@@ -7,10 +7,6 @@ pub use Rattle.cborn_edn.proofs.Meaning.Earliest.{none_noted as same_errors}
 pub moved : (next n : Here) (left l : Writer) (u : State) → next ≡ n → left ≡ l → Shows n l l.pieces.items u → Shows next left left.pieces.items u
 moved next n left l u e f h = subst (λ (w : Writer). Shows next w w.pieces.items u) (sym f) (subst (λ (x : Here). Shows x l l.pieces.items u) (sym e) h)
 
--- what is read then, moved likewise
-pub moved_read : (k : Holds) (next n : Here) (left l : Writer) (u : State) → next ≡ n → left ≡ l → Reads k n l l.pieces.items u → Reads k next left left.pieces.items u
-moved_read k next n left l u e f h = subst (λ (w : Writer). Reads k next w w.pieces.items u) (sym f) (subst (λ (x : Here). Reads k x l l.pieces.items u) (sym e) h)
-
 -- what was handed over, where the spellers and the states around are the same
 pub same_around : (h : Holds) (ps qs : List Speller) (s : State) (ss ts : List State) → qs ≡ ps → ss ≡ ts → AllHanded h ps (s ∷ ss) → AllHanded h qs (s ∷ ts)
 same_around h ps qs s ss ts e f t = subst (λ (l : List Speller). AllHanded h l (s ∷ ts)) (sym e) (subst (λ (l : List State). AllHanded h ps (s ∷ l)) f t)

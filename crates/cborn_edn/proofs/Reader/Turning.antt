@@ -109,11 +109,6 @@ is_builds (builds h ps) e = (h, ps, refl)
 is_builds (wants st) e = not_wanted st phases.Builds e (omega arith)
 is_builds _ e = apart _ _ e (λ f. omega arith)
 
-is_wants_chunk : (s : State) → phase_of s ≡ phases.WantsChunk → (st : Stack) × (p : Span) × (b : StringsBefore) × (wants_chunk st p b ≡ s)
-is_wants_chunk (wants_chunk st p b) e = (st, p, b, refl)
-is_wants_chunk (wants st) e = not_wanted st phases.WantsChunk e (omega arith)
-is_wants_chunk _ e = apart _ _ e (λ f. omega arith)
-
 pub is_wants_number : (s : State) → phase_of s ≡ phases.WantsNumber → (st : Stack) × (p : Span) × (wants_number st p ≡ s)
 is_wants_number (wants_number st p) e = (st, p, refl)
 is_wants_number (wants st) e = not_wanted st phases.WantsNumber e (omega arith)
@@ -173,10 +168,6 @@ start_inside kind number here writer s base c h1 h2 = grind (arith, adds, length
 -- where a chunk is wanted, no other token is taken
 pub no_chunk : (s : State) (c : Class) (a : Span) → phase_of s ≡ phases.WantsChunk → EndsPieces c → step_by s c a ≡ None
 no_chunk s c a h1 h2 = grind arith
-
--- where no piece is allowed, the machine takes none
-no_after : (st : Stack) (i : Item) (kind : Kind) (n : ℕ) (x : List ℕ) (a : Span) → is_piece kind ≡ true → step_by (has st i) (class_of kind n x) a ≡ None
-no_after st i kind n x a h1 = grind arith
 
 pub no_piece_taken : (s : State) (kind : Kind) (n : ℕ) (x : List ℕ) (a : Span) → takes_no_piece (phase_of s) ≡ true → is_piece kind ≡ true → step_by s (class_of kind n x) a ≡ None
 no_piece_taken s kind n x a h1 h2 = grind arith

@@ -54,14 +54,8 @@ paired x y z w e =
 
 -- The indicator of a width.
 
-holds_true : (w : Width) (n : ℕ) → WidthFits w n → holds w n ≡ true
-holds_true w n h1 = grind arith
-
 abbrev as_long : Width → Width → ℕ → Bool
 as_long w v n = length (following w n) == length (following v n)
-
-as_long-same : (w v : Width) (n : ℕ) → as_long w v n ≡ true → v ≡ w
-as_long-same w v n h1 = grind arith
 
 -- it asks for this width, and for no indefinite length
 abbrev Marks : Width → ℕ → Mark → Type 0

@@ -8,9 +8,6 @@ use Rattle.hex.specs.declared.error.FromHexError.{FromHexError}
 use Rattle.hex.specs.declared.error.FromHexError.TheVariants.{OddLength, InvalidStringLength}
 use Rattle.cborn_lex.specs.Strings.{digit}
 
-at_char : (c k : ℕ) → is_digit k 16 ≡ false → eqb c k ≡ true → is_digit c 16 ≡ false
-at_char c k h e = ap (λ d. is_digit d 16) (eqb-true c k e) ∙ h
-
 white_no_digit : (c : ℕ) → is_white c ≡ true → is_digit c 16 ≡ false
 white_no_digit c h1 = grind arith
 

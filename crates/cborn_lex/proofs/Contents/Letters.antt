@@ -9,9 +9,6 @@ use Rattle.cborn_lex.proofs.Sliced.Pieces.{front_is}
 pub no_code : (x : List ℕ) → are_hex (get_or x 0 0) (get_or x 1 0) (get_or x 2 0) (get_or x 3 0) ≡ false → code_at x ≡ None
 no_code x h1 = grind arith
 
-low_from : (a b : Bool) (n m : ℕ) → cond a (Some n) None ≡ Some m → is_low m ≡ false → cond (b && (a && is_low n)) (Some n) None ≡ None
-low_from a b n m h1 h2 = grind arith
-
 pub no_low : (x : List ℕ) (n : ℕ) → code_at (drop 2 x) ≡ Some n → is_low n ≡ false → low_code x ≡ None
 no_low x n h1 h2 = grind arith
 
