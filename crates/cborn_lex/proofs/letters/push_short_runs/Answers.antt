@@ -5,14 +5,7 @@ use Rattle.cborn_lex.proofs.letters.push_short_runs.Goals as goal
 use lib.Count.{count_trailing_zeros}
 
 pub escapes-init : goal.escapes-init
-escapes-init c =
-    let whole : 64 ≡ c.args.from + 64 - c.args.from = omega arith in (
-      omega arith,
-      omega arith,
-      subst (λ (w : ℕ). c.special_letters-left.result ≡ mask_l (map (is_special c.args.quote) (take w (drop c.args.from c.args.tail.now)))) whole c.special_letters-left.ensures,
-      λ old s. s,
-      take-length c.args.out.now.items,
-    )
+escapes-init c = grind (arith, is_special, mask_l, take-length)
 
 pub returns-then-tail-at-ne92-clause-letters : goal.returns-then-tail-at-ne92-clause-letters
 returns-then-tail-at-ne92-clause-letters c =
