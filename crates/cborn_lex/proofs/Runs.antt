@@ -201,7 +201,7 @@ meant_by q e quote l n m =
 -- One escape more.
 
 hex_plain : (q c : ℕ) → Quote q → is_digit c 16 ≡ true → is_plain q c ≡ true
-hex_plain q c h1 h2 = grind (arith, and_from, cond-true, false≢true, inl, inr, le-leb, leb_tells, lt-ltb, ne_eqb)
+hex_plain q c h1 h2 = grind (arith, and_from, cond-true, false≢true, le-leb, leb_tells, lt-ltb, ne_eqb)
 
 four_content : (q a b c d : ℕ) → Quote q → are_hex a b c d ≡ true → is_content q (four a b c d) ≡ true
 four_content q a b c d quote h =

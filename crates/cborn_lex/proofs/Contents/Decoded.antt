@@ -60,7 +60,7 @@ scanned dec pad at (b ∷ bs) st end i table bytes held h = elim (result_cases (
 ]
 
 last : (dec s : List ℕ) (pad at : ℕ) → IsDecodeTable dec → IsBytes s → are_bytes (suffix_bytes dec pad at s) ≡ true
-last dec s pad at h1 h2 = grind (arith, get_or-drop, group_is, inl, inr, result_cases, scanned, taken, zeros)
+last dec s pad at h1 h2 = grind (arith, get_or-drop, group_is, result_cases, scanned, taken, zeros)
 
 outcome : (x : Option DecodeError) (d b : List ℕ) → decode_outcome x d ≡ Ok b → (x ≡ None) × (d ≡ b)
 outcome x d b h1 = grind arith

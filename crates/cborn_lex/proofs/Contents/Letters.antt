@@ -56,7 +56,7 @@ either_code : (e n : ℕ) (b : Bool) → (b ≡ true → escape_code e ∷ [] �
 either_code e n b f k h = elim (or_cases (eqb e n) b h) [ inl i ↦ ascii e n i k | inr i ↦ f i ]
 
 pub escape_bytes : (q e : ℕ) → is_escape q e ≡ true → escape_code e ∷ [] ≡ encode_utf8 (escape_code e)
-escape_bytes q e h1 = grind (arith, and_parts, ascii, either_code, false≢true, inl, inr, lit<, or_cases)
+escape_bytes q e h1 = grind (arith, and_parts, ascii, either_code, false≢true, lit<, or_cases)
 
 pub no_raw : (q d : ℕ) (x y : List ℕ) → LetterAt q (92 ∷ x) (raw d) y → ⊥
 no_raw q d x y h1 = grind arith

@@ -78,7 +78,7 @@ module _ (q : ℕ) where
   stops x = ap not (eq-eqb q q refl)
 
   found_from : (y z s : List ℕ) → y ≡ s ++ z → list_all (is_not q) s ≡ true → begins (is_not q) z ≡ false → Found (list_all (is_not q)) q y ⊎ (list_all (is_not q) y ≡ true)
-  found_from y z s h1 h2 h3 = grind (arith, append-nil, eqb-true, inl, inr, not-false)
+  found_from y z s h1 h2 h3 = grind (arith, append-nil, eqb-true, not-false)
 
   plain_apart : (c x : List ℕ) → list_all (is_not q) c ≡ true → list_all (is_not q) (c ++ q ∷ x) ≡ true → ⊥
   plain_apart [] x h k = both_ways (not (eqb q q)) (stops x) (and_parts _ _ k).0

@@ -5,7 +5,7 @@ use Rattle.cborn_edn.specs.declared.states.Level.TheVariants as levels
 use Rattle.cborn_edn.proofs.containers.open_sized.Goals as goal
 
 pub returns-then-is_map : goal.returns-then-is_map
-returns-then-is_map g c = grind (arith, a_map, both_ok, brackets_of, count_of, free, front_of, in_key, inside, level_of, no_left, no_pair, noted_stack, opened_read, same_errors, states_around, wants)
+returns-then-is_map g c = grind (arith, both_ok, free, no_left, opened_read, same_errors)
 
 pub returns : goal.returns
-returns g c = grind (arith, an_array, both_ok, brackets_of, count_of, free, front_of, in_array, in_row, inside, level_of, no_item, no_left, noted_stack, opened_read, same_errors, states_around, wants)
+returns g c = grind (arith, both_ok, free, no_left, opened_read, same_errors)

@@ -4,4 +4,4 @@ use Rattle.cborn_edn.proofs.Reader.Items.{negative_here}
 use Rattle.cborn_edn.proofs.integers.negative_at.Goals as goal
 
 pub returns-clause-token : goal.returns-clause-token
-returns-clause-token c profile = grind (arith, begins, eqb, negative_here, take_rest)
+returns-clause-token c profile = grind (arith, negative_here, take_rest)

@@ -4,4 +4,4 @@ use Rattle.cborn_edn.proofs.Reader.Items.{opening_here, opening_takes}
 use Rattle.cborn_edn.proofs.marks.opening_at.Goals as goal
 
 pub returns-clause-token : goal.returns-clause-token
-returns-clause-token c profile = grind (arith, opening, opening_character, opening_here, opening_takes, take_rest)
+returns-clause-token c profile = grind (arith, opening_here, opening_takes, take_rest)

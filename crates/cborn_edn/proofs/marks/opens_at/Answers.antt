@@ -4,4 +4,4 @@ use Rattle.cborn_edn.proofs.Reader.Items.{bare_opening, opening_takes}
 use Rattle.cborn_edn.proofs.marks.opens_at.Goals as goal
 
 pub returns-clause-token : goal.returns-clause-token
-returns-clause-token c = grind (arith, bare_opening, opening, opening_character, opening_takes, take_rest)
+returns-clause-token c = grind (arith, bare_opening, opening_takes, take_rest)

@@ -4,7 +4,7 @@ use Rattle.cborn_edn.proofs.Lemmas.{number_fits, hands_integer, hands_bignum, le
 use Rattle.cborn_edn.proofs.numbers.put_number.Goals as goal
 
 pub returns-then-argument-ge-OUTSIDE : goal.returns-then-argument-ge-OUTSIDE
-returns-then-argument-ge-OUTSIDE g c = grind (arith, all_ok, argument_of, first_error, hands_bignum, has, is_small, le-ltb, leaf_shown, noted_stack, number, number_errors, states_around, wants)
+returns-then-argument-ge-OUTSIDE g c = grind (arith, all_ok, hands_bignum, le-ltb, leaf_shown)
 
 pub hand-requires : goal.hand-requires
 hand-requires g c = λ none.
@@ -13,4 +13,4 @@ hand-requires g c = λ none.
     rw (c.width_for-width.ensures, c.argument_of-argument.ensures) (number_fits c.args.writer.now.error c.note_number.new.error none c.args.place n.negative n.magnitude n.mark small c.note_number.ensures)
 
 pub returns : goal.returns
-returns g c = grind (arith, argument_of, first_error, hands_integer, has, is_small, leaf_shown, lt-ltb, noted_stack, number, number_errors, on_ok, states_around, wants)
+returns g c = grind (arith, hands_integer, leaf_shown, lt-ltb, on_ok)

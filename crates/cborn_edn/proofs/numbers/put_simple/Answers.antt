@@ -4,7 +4,7 @@ use Rattle.cborn_edn.proofs.Lemmas.{no_left, simple_fits, silenced, free, leaf_s
 use Rattle.cborn_edn.proofs.numbers.put_simple.Goals as goal
 
 pub returns-then-not-is_none : goal.returns-then-not-is_none
-returns-then-not-is_none g c = grind (arith, first_error, has_number, is_none, leaf_shown, silenced, simple_noted, states_around, wants_number)
+returns-then-not-is_none g c = grind (arith, leaf_shown, silenced, simple_noted)
 
 pub overflow_cast-event : goal.overflow_cast-event
 overflow_cast-event g c =
@@ -18,4 +18,4 @@ hand-requires g c = λ none.
     (simple_fits c.args.writer.now.error c.note_simple.new.error none c.args.writer.now.simple c.args.place n.negative n.magnitude n.mark c.note_simple.ensures).0
 
 pub returns : goal.returns
-returns g c = grind (arith, free, front_of, has_number, leaf_shown, no_left, on_ok, put, simple_noted, states_around, wants_number)
+returns g c = grind (arith, free, leaf_shown, no_left, on_ok, simple_noted)

@@ -3,4 +3,4 @@ use Rattle.cborn_edn.proofs.Lemmas.{free, no_left, leaf_shown, on_ok, same_error
 use Rattle.cborn_edn.proofs.numbers.put_word.Goals as goal
 
 pub returns : goal.returns
-returns g c = grind (arith, free, front_of, has, leaf_shown, no_left, noted_stack, on_ok, put, same_errors, states_around, wants, word)
+returns g c = grind (arith, free, leaf_shown, no_left, on_ok, same_errors)

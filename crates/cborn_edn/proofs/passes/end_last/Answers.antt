@@ -4,7 +4,7 @@ use Rattle.cborn_edn.proofs.Lemmas.{on_ok, string_end, item_end, bare_end}
 use Rattle.cborn_edn.proofs.passes.end_last.Goals as goal
 
 pub end_item-requires : goal.end_item-requires
-end_item-requires g c = grind (arith, at_top, in_row, string_end)
+end_item-requires g c = grind arith
 
 pub returns-then-ends_string : goal.returns-then-ends_string
 returns-then-ends_string g c = on_ok c.end_item.result (λ h s t last e.

@@ -4,7 +4,7 @@ use Rattle.cborn_edn.proofs.Lemmas.{white_here, skipped}
 use Rattle.cborn_edn.proofs.quick.take_white_space.Goals as goal
 
 pub returns-then-not-begins_white_space-2 : goal.returns-then-not-begins_white_space-2
-returns-then-not-begins_white_space-2 g c = grind (arith, is_white, skipped, white_here)
+returns-then-not-begins_white_space-2 g c = grind (arith, skipped, white_here)
 
 pub returns : goal.returns
 returns g c =

@@ -4,10 +4,10 @@ use Rattle.cborn_edn.proofs.Lemmas.{if_ok, item_home, chunk_home, taken_as, take
 use Rattle.cborn_edn.proofs.steps.after_pieces.Goals as goal
 
 pub end_item-requires : goal.end_item-requires
-end_item-requires g c = grind (arith, builds, is_some, item_home)
+end_item-requires g c = grind (arith, item_home)
 
 pub after-requires-clause-shows : goal.after-requires-clause-shows
-after-requires-clause-shows g c = grind (arith, builds, is_some, item_home, string)
+after-requires-clause-shows g c = grind (arith, item_home)
 
 pub returns-then-is_none : goal.returns-then-is_none
 returns-then-is_none g c = if_ok c.after.result _ _ (λ ok t h ps k x a p e none shows.
@@ -17,10 +17,10 @@ returns-then-is_none g c = if_ok c.after.result _ _ (λ ok t h ps k x a p e none
     (taken_same (g.V.Visitor.holds c.after.new.visitor) ok (builds (as_item i.0) ps) (has i.0 (string ps)) k a c.after.new.here c.after.new.writer (ended_same i.0 ps k a none) (t i.0 (string ps) k x a p e (c.in_ok-end_item.ensures i.0 ps was)))) c.after.ensures
 
 pub end_chunk-requires : goal.end_chunk-requires
-end_chunk-requires g c = grind (arith, builds, chunk_home, is_some)
+end_chunk-requires g c = grind (arith, chunk_home)
 
 pub end_chunk-requires-in-ParenClose : goal.end_chunk-requires-in-ParenClose
-end_chunk-requires-in-ParenClose g c = grind (arith, builds, chunk_home, is_some)
+end_chunk-requires-in-ParenClose g c = grind (arith, chunk_home)
 
 pub returns-in_ok-end_chunk-in-Comma : goal.returns-in_ok-end_chunk-in-Comma
 returns-in_ok-end_chunk-in-Comma g c = λ h ps k x a p e none shows.

@@ -4,4 +4,4 @@ use Rattle.cborn_edn.proofs.Lemmas.{hands_text, leaf_shown, text_item, text_note
 use Rattle.cborn_edn.proofs.strings.put_last_piece.Goals as goal
 
 pub returns-clause-read : goal.returns-clause-read
-returns-clause-read g c = grind (arith, hands_text, has, leaf_shown, least, states_around, take_rest, text_item, text_noted, wants)
+returns-clause-read g c = grind (arith, hands_text, leaf_shown, take_rest, text_item, text_noted)

@@ -3,4 +3,4 @@ use Rattle.cborn_edn.proofs.Lemmas.{hands_text, leaf_shown, on_ok, text_item, te
 use Rattle.cborn_edn.proofs.strings.put_text.Goals as goal
 
 pub returns-clause-read : goal.returns-clause-read
-returns-clause-read g c = grind (arith, hands_text, has, leaf_shown, on_ok, states_around, text_item, text_noted, wants)
+returns-clause-read g c = grind (arith, hands_text, leaf_shown, on_ok, text_item, text_noted)

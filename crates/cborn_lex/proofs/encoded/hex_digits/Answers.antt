@@ -29,7 +29,7 @@ loop-c-preserved c =
     ]
 
 pub returns : goal.returns
-returns c = grind (arith, after, append-nil, at_end, else-inside-2, strip, then-inside-2)
+returns c = grind (arith, append-nil, at_end, else-inside-2, then-inside-2)
 
 pub returns-then-not-is_white : goal.returns-then-not-is_white
-returns-then-not-is_white c = grind (arith, after, cond-false, drop_more, is_white, le-ltb, nat_lt, ne_eqb, strip)
+returns-then-not-is_white c = grind (arith, cond-false, drop_more, le-ltb, nat_lt, ne_eqb)

@@ -3,7 +3,7 @@ use Rattle.cborn_lex.proofs.Decimals.{digits_pass, long_value}
 use Rattle.cborn_lex.proofs.integers.any_integer.Goals as goal
 
 pub returns-then-not-begins_numeral-clause-run : goal.returns-then-not-begins_numeral-clause-run
-returns-then-not-begins_numeral-clause-run c = grind (arith, begins, digits_pass, is_numeral)
+returns-then-not-begins_numeral-clause-run c = grind (arith, digits_pass)
 
 pub returns-then-not-begins_numeral-clause-value : goal.returns-then-not-begins_numeral-clause-value
 returns-then-not-begins_numeral-clause-value c =

@@ -5,7 +5,7 @@ use Rattle.cborn_lex.proofs.letters.push_short_runs.Goals as goal
 use lib.Count.{count_trailing_zeros}
 
 pub escapes-init : goal.escapes-init
-escapes-init c = grind (arith, is_special, mask_l, take-length)
+escapes-init c = grind (arith, take-length)
 
 pub returns-then-tail-at-ne92-clause-letters : goal.returns-then-tail-at-ne92-clause-letters
 returns-then-tail-at-ne92-clause-letters c =

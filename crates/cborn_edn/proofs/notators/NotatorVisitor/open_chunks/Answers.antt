@@ -5,4 +5,4 @@ use Rattle.cborn_edn.proofs.notators.NotatorVisitor.open_chunks.Goals.{then-is_n
 use Rattle.cborn_edn.proofs.notators.NotatorVisitor.open_chunks.Goals as goal
 
 pub returns-clause-held : goal.returns-clause-held
-returns-clause-held c = grind (arith, append-nil, else-is_none, entered_held, in_chunks, noted, separator, then-is_none+in_ok-begin)
+returns-clause-held c = grind (arith, append-nil, else-is_none, entered_held, then-is_none+in_ok-begin)
