@@ -3,9 +3,6 @@ use Rattle.cborn_edn.proofs.Common.{refl, sym, ap, ◌∙◌, true, false, arith
 use Rattle.cborn_edn.proofs.Lemmas.{no_left, simple_fits, silenced, free, leaf_shown, simple_noted, on_ok}
 use Rattle.cborn_edn.proofs.numbers.put_simple.Goals as goal
 
-pub returns-then-not-is_none : goal.returns-then-not-is_none
-returns-then-not-is_none g c = grind (arith, leaf_shown, silenced, simple_noted)
-
 pub overflow_cast-event : goal.overflow_cast-event
 overflow_cast-event g c =
     let n = c.args.numeral in
@@ -16,6 +13,3 @@ pub hand-requires : goal.hand-requires
 hand-requires g c = λ none.
     let n = c.args.numeral in
     (simple_fits c.args.writer.now.error c.note_simple.new.error none c.args.writer.now.simple c.args.place n.negative n.magnitude n.mark c.note_simple.ensures).0
-
-pub returns : goal.returns
-returns g c = grind (arith, free, leaf_shown, no_left, on_ok, simple_noted)

@@ -3,9 +3,6 @@ use Rattle.cborn_edn.proofs.Common.{sym, ap, ◌∙◌, subst, ℕ, List, [], ge
 use Rattle.cborn_edn.proofs.Lemmas.{white_here, skipped}
 use Rattle.cborn_edn.proofs.quick.take_white_space.Goals as goal
 
-pub returns-then-not-begins_white_space-2 : goal.returns-then-not-begins_white_space-2
-returns-then-not-begins_white_space-2 g c = grind (arith, skipped, white_here)
-
 pub returns : goal.returns
 returns g c =
     let s = skipped c.requires.0 c.in-Some.stop (subst (λ (x : List ℕ). TokensBetween c.args.source.profile x c.args.here.now.at c.in-Some.stop []) c.as_bytes-bytes.ensures.value c.in-Some.ensures.white_space) in

@@ -3,15 +3,6 @@ use Rattle.cborn_edn.proofs.Common.{[], sym, ap, ◌∙◌, subst, take, arith, 
 use Rattle.cborn_edn.proofs.Lemmas.{error_is, fits_more, fits_whole}
 use Rattle.cborn_edn.proofs.showing.show.Goals as goal
 
-pub returns-in_err-finish-clause-refused : goal.returns-in_err-finish-clause-refused
-returns-in_err-finish-clause-refused c = grind (arith, error_is, take_all)
-
-pub unwrap-requires : goal.unwrap-requires
-unwrap-requires c = grind (arith, fits_whole, take_all)
-
-pub returns-clause-shown : goal.returns-clause-shown
-returns-clause-shown c = grind (arith, fits_whole, take_all)
-
 pub loop-item-preserved : goal.loop-item-preserved
 loop-item-preserved c =
     let items = c.args.items.now in

@@ -11,9 +11,6 @@ add_piece-requires g c = let q = c.requires.ready in start_inside c.args.token.k
 pub add_piece-requires-in-Bytes : goal.add_piece-requires-in-Bytes
 add_piece-requires-in-Bytes g c = let q = c.requires.ready in start_inside c.args.token.kind c.args.number c.args.here.now c.args.writer.now q.0 q.1.0 q.1.1.0 (sym c.takes_no_piece.ensures ∙ c.if-takes_no_piece.false) q.1.1.1
 
-pub returns-then-takes_no_piece : goal.returns-then-takes_no_piece
-returns-then-takes_no_piece g c = grind (arith, no_piece_taken)
-
 pub returns-in-Text : goal.returns-in-Text
 returns-in-Text g c = λ s. let h = g.V.Visitor.holds c.args.visitor.now in adding c.args.token.kind c.args.number c.args.token.start c.args.here.now c.add_piece.new.here c.args.writer.now c.add_piece.new.writer s (sym c.takes_no_piece.ensures ∙ c.if-takes_no_piece.false) (λ home o. arm h c.args.token.kind (kinds.Text c.in-Text.mark) c.args.number c.args.token.start c.args.here.now c.add_piece.new.here c.args.writer.now c.add_piece.new.writer true (at_home home o) c.in-Text.is (λ x base a p e r.
     let piece = text a x c.in-Text.mark in
