@@ -2,9 +2,6 @@ use Rattle.cborn_lex.proofs.Common.{arith, refl, sym, ap, ◌∙◌, take, numbe
 use Rattle.cborn_lex.proofs.Decimals.{digits_pass, long_value}
 use Rattle.cborn_lex.proofs.integers.any_integer.Goals as goal
 
-pub returns-then-not-begins_numeral-clause-run : goal.returns-then-not-begins_numeral-clause-run
-returns-then-not-begins_numeral-clause-run c = grind (arith, digits_pass)
-
 pub returns-then-not-begins_numeral-clause-value : goal.returns-then-not-begins_numeral-clause-value
 returns-then-not-begins_numeral-clause-value c =
     c.value.ensures ∙ ap (λ x. within (number 10 0 x)) c.front_of.ensures

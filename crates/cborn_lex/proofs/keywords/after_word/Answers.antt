@@ -3,9 +3,6 @@ use Rattle.cborn_lex.proofs.TwoParts.{nothing_appended}
 use Rattle.cborn_lex.proofs.Sliced.Words.{prefix_made}
 use Rattle.cborn_lex.proofs.keywords.after_word.Goals as goal
 
-pub returns-in_ok-front : goal.returns-in_ok-front
-returns-in_ok-front c = grind (arith, prefix_made)
-
 pub returns-else-begins_with : goal.returns-else-begins_with
 returns-else-begins_with c = (
   omega arith,
