@@ -1,11 +1,9 @@
 -- The text of a partial sequence, as heads and strings come.
-use Rattle.std.specs.Prelude.{◌≡◌, ◌+◌, ◌-◌, ◌^◌, ◌≤◌, ◌∷◌, ◌++◌, ◌⊎◌, if◌then◌else◌}
-use Rattle.cborn_edn.proofs.Common.{refl, sym, ap, ◌∙◌, subst, ℕ, List, [], length, map, drop, min, decimal, append_assoc, append-nil, Option, Some, None, Bool, true, false, not, is_some, inl, inr, Result, Ok, Err, OnOk, arith, le-ltb, ltb-true, ltb-false, eq-eqb, IsUtf8, flat_map-append, drop-append_seam, encode_lower, Fixed, Width, Direct, One, Two, Four, Eight, holds, least, StringKind, OfBytes, OfText, Tree, trees, entries, FitsAll, Partial, top, inside, Opening, an_array, a_map, a_tag, in_chunks, no_part, part, put, built, paired, last_key, chunks_of, string_tree, integer_tree, AreStrings, Ends, IsFree, ended_size, Notator, Absent, Wide, is_good, others, shown, shown_chunk, shown_string, shown_lines, item_texts, pair_texts, joined_by, indicator, mark_for, mark_for_size, opened, Shown, IsBadText, IsBadAmong, IsBadInPairs, IsBadChunk, LowestBadText, after, separator, ending, next_after, beginning, next_in, next_around, late_size, is_counted, one_more, IsCounted, IsEnded, count_one, tally, late_in, lates, IsBadIn, IsLowest, lowest_with, quote, content, string_end, IsHeld, codes, ByteNode as Bytes, TextNode as Text, count-trees, count_entries-entries, lower}
-use Rattle.std.proofs.Math.Dec.{ltb}
-use Rattle.cborn_model.specs.declared.heads.Size.TheVariants.{Endless}
+use Rattle.std.specs.Prelude.{◌≡◌, ◌+◌, ◌-◌, ◌^◌, ◌∷◌, ◌++◌, ◌⊎◌, if◌then◌else◌}
+use Rattle.cborn_edn.proofs.Common.{refl, sym, ap, ◌∙◌, subst, ℕ, List, [], length, map, drop, min, append_assoc, append-nil, Option, Some, None, Bool, true, false, not, is_some, inl, inr, Result, Ok, Err, OnOk, arith, le-ltb, ltb-true, ltb-false, eq-eqb, IsUtf8, flat_map-append, drop-append_seam, Fixed, Width, StringKind, OfBytes, OfText, Tree, trees, entries, FitsAll, Partial, top, inside, Opening, an_array, a_map, in_chunks, no_part, part, put, built, paired, last_key, chunks_of, string_tree, integer_tree, AreStrings, Ends, IsFree, Notator, is_good, others, shown, shown_chunk, shown_string, shown_lines, item_texts, pair_texts, joined_by, Shown, IsBadText, IsBadAmong, IsBadInPairs, IsBadChunk, LowestBadText, after, separator, ending, next_after, beginning, next_in, next_around, late_size, is_counted, one_more, IsCounted, IsEnded, count_one, tally, late_in, lates, IsBadIn, IsLowest, lowest_with, quote, content, string_end, IsHeld, codes, ByteNode as Bytes, TextNode as Text, count-trees, count_entries-entries, lower}
 use Rattle.cborn_wire.proofs.Visiting.Counting.{last_same}
 use Rattle.cborn_edn.specs.declared.notators.Next.{Next}
-use Rattle.cborn_edn.specs.declared.notators.Next.TheVariants.{FirstItem, Item, FirstElement, Element, FirstKey, Key, Value, Content, FirstChunk, Chunk, FirstLateElement, LateElement, FirstLateKey, LateKey, LateValue}
+use Rattle.cborn_edn.specs.declared.notators.Next.TheVariants.{FirstItem, Item, FirstElement, Element, FirstKey, Key, Value, FirstChunk, Chunk, FirstLateElement, LateElement, FirstLateKey, LateKey, LateValue}
 use Rattle.cborn_edn.specs.declared.notators.OpenString.{OpenString}
 use Rattle.cborn_edn.specs.declared.notators.Late.{Late}
 use Rattle.cborn_edn.specs.devices.Notating.{following, first, written}

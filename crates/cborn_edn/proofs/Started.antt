@@ -1,7 +1,7 @@
 -- The places where the nodes and chunks of a text begin rise: each token has at most one of them, and tokens rise.
-use Rattle.std.specs.Prelude.{◌<◌, ◌≤◌, ◌∷◌, ◌≡◌, ◌++◌, ◌&&◌, ◌⊎◌}
-use Rattle.cborn_edn.proofs.Common.{sym, subst, ℕ, List, [], length, inl, inr, arith, AllByRecursion, Trees, Profile, Token, SpansRise, Notates, IsRising, spots_all, spans_rise, refl, ap, Bool, true, false, cond, append-nil, Width, Chunk, Tree, Uint, Nint, Entries, Mark, ArrayClose, MapClose, ParenClose, Comma, Colon, ChunkOpen, EmbedClose, Number, MeaningError, StringKind, OfBytes, OfText, integer, string_node, chunked_node, width, is_endless, is_below, argument_of, is_small, bignum, number_node, Str, said_string, chunk, starts_of_chunks, unless_bytes, spots, spots_entries, IsItem, text_piece, byte_piece, ArePieces, AreChunks, first, next, AreItems, last, before, IsContent, empty, ArePairs, last_pair, pair_before, IsFields, no_fields, IsText, nothing, ByteNode, token}
-use Rattle.cborn_edn.specs.Grammar.{number, word, simple, tag, array, map, string, chunked, embedded, piece, also, tight, loose, tight_fields, loose_fields, items}
+use Rattle.std.specs.Prelude.{◌<◌, ◌≤◌, ◌∷◌, ◌≡◌, ◌++◌, ◌⊎◌}
+use Rattle.cborn_edn.proofs.Common.{sym, subst, ℕ, List, [], length, inl, inr, arith, AllByRecursion, Trees, Profile, Token, SpansRise, Notates, IsRising, spots_all, spans_rise, refl, ap, Bool, append-nil, Chunk, Tree, Entries, Mark, ArrayClose, MapClose, ParenClose, Comma, Colon, ChunkOpen, EmbedClose, Number, MeaningError, StringKind, chunked_node, number_node, Str, said_string, chunk, starts_of_chunks, unless_bytes, spots, spots_entries, IsItem, text_piece, byte_piece, ArePieces, AreChunks, first, next, AreItems, last, before, IsContent, empty, ArePairs, last_pair, pair_before, IsFields, no_fields, IsText, token}
+use Rattle.cborn_edn.specs.Grammar.{number, word, simple, tag, array, map, string, chunked, embedded, piece, also, tight, loose, tight_fields, loose_fields}
 
 -- places of some of the tokens, in their order
 abbrev pub Among : List ℕ → List Token → Type 0

@@ -1,6 +1,6 @@
 -- What a step of the machine adds to what it holds: its token, the depth that this needs, and the comma that may be before a bracket.
-use Rattle.std.specs.Prelude.{◌≡◌, ◌+◌, ◌∷◌, ◌++◌}
-use Rattle.cborn_edn.proofs.Common.{refl, sym, ℕ, [], Bool, Option, None, append_assoc, append-nil, arith, max, Mark, Class, ArrayOpen, MapOpen, EmbedClose, ArrayClose, MapClose, ParenClose, Comma, Colon, EmbedOpen, ChunkOpen, SimpleOpen, Number, TagOpen, Word, Text, Bytes, Span, token, Item, string, Pieces, StringsBefore, row, Content, loose, tight, tokens_of, tokens_of_pieces, tokens_of_strings_before, tokens_of_row_before, depth_of_number, depth, depth_of_pieces, depth_of_strings_before, commas, commas_of_pieces, commas_of_strings_before, reach, Stack, in_row, in_key, in_value, in_tag, Nest, at_top, in_array, in_embed, Home, as_item, as_chunk, State, wants, has, builds, wants_chunk, wants_number, has_number, ends, ends_loose, begin, after_string, more_string, begin_chunk, begin_number, after_number, step_by, held_stack, held_nest, held_home, held, levels, levels_home, open_levels, comma_in, comma_at}
+use Rattle.std.specs.Prelude.{◌+◌, ◌∷◌, ◌++◌}
+use Rattle.cborn_edn.proofs.Common.{ℕ, [], Bool, append_assoc, append-nil, arith, max, Mark, Class, ChunkOpen, SimpleOpen, Number, Span, token, Item, Pieces, StringsBefore, tokens_of, tokens_of_pieces, tokens_of_strings_before, depth_of_number, depth, depth_of_pieces, depth_of_strings_before, commas, commas_of_pieces, commas_of_strings_before, reach, Stack, Home, State, wants, has, builds, wants_chunk, wants_number, has_number, ends_loose, begin, after_string, more_string, begin_chunk, begin_number, after_number, step_by, held_stack, held_home, held, levels, levels_home, open_levels, comma_in, comma_at}
 use Rattle.cborn_edn.proofs.Grammar.Held.{after, deep_stack, deep_home, deep, commas_stack, commas_home, commas_held, levels-deep, After, Grows, after-is, ends_grow}
 
 -- a token after a whole item

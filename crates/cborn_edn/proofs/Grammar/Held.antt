@@ -1,6 +1,6 @@
 -- What the machine holds: the tokens that it took, how deep they went, and the commas before brackets.
 use Rattle.std.specs.Prelude.{◌≡◌, ◌+◌, ◌≤◌, ◌∷◌, ◌++◌}
-use Rattle.cborn_edn.proofs.Common.{refl, ap, ◌∙◌, ℕ, suc, List, [], Option, Some, None, append_assoc, arith, max, Class, EmbedClose, ArrayClose, Token, Span, token, Piece, embedded, Pieces, Content, tokens_of_piece, tokens_of_pieces, tokens_of_content, depth_of_number, depth, depth_of_piece, depth_of_pieces, depth_of_strings_before, depth_of_row_before, depth_of_content, depth_of_pairs_before, commas, commas_of_piece, commas_of_pieces, commas_of_strings_before, commas_of_row_before, commas_of_content, commas_of_pairs_before, Stack, in_row, in_key, in_value, in_tag, Nest, at_top, in_array, in_embed, Home, as_item, as_chunk, State, wants, has, builds, wants_chunk, wants_number, has_number, with_piece, ends, reach}
+use Rattle.cborn_edn.proofs.Common.{refl, ℕ, suc, List, [], Option, Some, None, append_assoc, arith, max, Class, Token, Span, token, Piece, Pieces, Content, tokens_of_piece, tokens_of_pieces, tokens_of_content, depth_of_number, depth, depth_of_piece, depth_of_pieces, depth_of_strings_before, depth_of_row_before, depth_of_content, depth_of_pairs_before, commas, commas_of_piece, commas_of_pieces, commas_of_strings_before, commas_of_row_before, commas_of_content, commas_of_pairs_before, Stack, in_row, in_key, in_value, in_tag, Nest, at_top, in_array, in_embed, Home, as_item, as_chunk, State, wants, has, builds, wants_chunk, wants_number, has_number, with_piece, ends, reach}
 pub use Rattle.cborn_edn.specs.devices.Machine.{tokens_before, held_stack, held_nest, held_home, held, levels, levels_nest, levels_home, open_levels, row_comma, pair_comma, comma_in, comma_at, Stack, Nest, Home, State, start, with_piece, ends, ends_loose, begin, after, after_string, more_string, begin_chunk, begin_number, after_number, step_by, step, on, run, in_row, in_key, in_value, in_tag, at_top, in_array, in_embed, as_item, as_chunk, wants, has, builds, wants_chunk, wants_number, has_number}
 
 pub run-append : (x y : List Token) (o : Option State) → run (x ++ y) o ≡ run y (run x o)

@@ -1,9 +1,8 @@
 -- Tokens have at most one tree. Within the limit they have a tree or one syntax error, never both. A larger limit and profile 2 accept all that the others do.
 use Rattle.std.specs.Prelude.{◌≡◌, ◌+◌, ◌≤◌, ◌∷◌, ◌++◌, ◌⊎◌}
-use Rattle.cborn_edn.proofs.Common.{refl, ap, ◌∙◌, sym, subst, ℕ, List, [], Option, Some, None, append_assoc, append-nil, arith, inl, inr, max, Token, Profile, token, span, Item, number, word, simple, string, row, no_item, Input, items, tokens_of_input, depth, depth_of_input, commas, commas_of_input, AllowsCount, EdnReason, UnexpectedToken, UnexpectedEnd, TooDeep, Parse, HasTree, GoesOn, StopsAt, IsSyntaxError, reach, same_Some, ProfileOne, ProfileTwo, Stack, in_row, at_top, as_item, State, wants, has, builds, start, step, run, finish, held, open_levels, levels, comma_at, IsText, Parsed}
-use Rattle.cborn_edn.specs.devices.Syntax.{nothing}
-use Rattle.cborn_edn.proofs.Grammar.Held.{run-append, run-none, deep_stack, deep, commas_stack, commas_held, After, Grows}
-use Rattle.cborn_edn.proofs.Grammar.Takes.{landed, then, whole, takes_input, finish-whole}
+use Rattle.cborn_edn.proofs.Common.{refl, ap, ◌∙◌, sym, subst, ℕ, List, [], Option, Some, None, append_assoc, append-nil, arith, inl, inr, max, Token, Profile, token, span, Input, tokens_of_input, depth_of_input, commas_of_input, AllowsCount, EdnReason, UnexpectedToken, UnexpectedEnd, TooDeep, Parse, HasTree, GoesOn, StopsAt, IsSyntaxError, reach, same_Some, ProfileOne, ProfileTwo, State, start, step, run, finish, held, open_levels, comma_at, IsText, Parsed}
+use Rattle.cborn_edn.proofs.Grammar.Held.{run-append, run-none, deep, commas_held, After, Grows}
+use Rattle.cborn_edn.proofs.Grammar.Takes.{then, whole, takes_input, finish-whole}
 use Rattle.cborn_edn.proofs.Grammar.Grows.{grows}
 use Rattle.cborn_edn.proofs.Grammar.Closes.{closes}
 use Rattle.cborn_edn.proofs.Short.Rebuilt.{parsed, has_tree}

@@ -1,6 +1,6 @@
 -- The machine with its tests of the profile and the limit is a parser: it answers the tree, or the syntax error.
 use Rattle.std.specs.Prelude.{◌⊎◌, ◌≡◌, ◌+◌, ◌≤◌, ◌∷◌, ◌++◌, ◌<◌}
-use Rattle.cborn_edn.proofs.Common.{HasTree, EdnReason, inl, inr, refl, ap, ◌∙◌, sym, subst, ℕ, suc, List, [], Bool, true, false, Option, Some, None, append_assoc, append-nil, leb, cond, arith, zero, max, leb-true, leb-false, Token, Profile, AllowsCount, token, span, Input, depth_of_input, UnexpectedToken, TooDeep, Parse, GoesOn, IsSyntaxError, reach, ProfileOne, ProfileTwo, State, start, step, finish, held, open_levels, comma_at}
+use Rattle.cborn_edn.proofs.Common.{HasTree, EdnReason, inl, inr, refl, ap, ◌∙◌, sym, subst, ℕ, List, [], Bool, true, false, Option, Some, None, append_assoc, append-nil, leb, cond, arith, max, leb-true, leb-false, Token, Profile, AllowsCount, token, span, Input, depth_of_input, UnexpectedToken, TooDeep, Parse, GoesOn, IsSyntaxError, reach, ProfileOne, ProfileTwo, State, start, step, finish, held, open_levels, comma_at}
 use Rattle.cborn_edn.proofs.Grammar.Held.{deep, commas_held, After, Grows}
 use Rattle.cborn_edn.proofs.Grammar.Grows.{grows}
 use Rattle.cborn_edn.proofs.Short.Rebuilt.{has_tree}

@@ -1,8 +1,8 @@
 -- Containers that end, leaves, and heads that are handed over.
-use Rattle.std.specs.Prelude.{◌≡◌, ◌<◌, ◌^◌, ◌∷◌, ◌++◌, if◌then◌else◌}
-use Rattle.cborn_edn.proofs.Common.{arith, refl, sym, ap, ◌∙◌, subst, ℕ, List, [], length, Bool, true, false, ltb, cond, None, append_assoc, Width, Direct, Fixed, holds, least, Tree, Items, Pairs, Trees, Entries, no_entry, entry, entries, count, count_entries, Opening, an_array, a_map, a_tag, Partial, inside, put, paired, last_key, built, ended_size, IsFree, Ends, Mark, Absent, Endless, Wide, IndicatorTooNarrow, Close, width, size, size_errors, listed_trees, trees-listed, Span, Item, tag, array, row, Content, loose, tight, pairs, Fields, loose_fields, tight_fields, Stack, in_tag, in_array, State, has, node, nodes_before, nodes_in, entries_before, entries_in, faults, faults_before, faults_in, faults_before_pairs, faults_of_fields, noted, noted_stack, content_state, fields_state, AreFew, Comes, listed_entries, size_asked, front_of, front, Hands, count-trees, count_entries-entries, map_item as map, digits_of, integer_tree, is_below, argument_of, is_small, integer, bignum, number_node, Integer, Bignum, Tag, number, wants, bignum_of}
+use Rattle.std.specs.Prelude.{◌≡◌, ◌<◌, ◌^◌, ◌∷◌, ◌++◌}
+use Rattle.cborn_edn.proofs.Common.{arith, refl, sym, ap, ◌∙◌, subst, ℕ, List, [], length, Bool, true, false, cond, None, append_assoc, Width, Tree, Pairs, Trees, Entries, no_entry, entry, entries, count, count_entries, Opening, an_array, a_map, a_tag, Partial, inside, put, paired, last_key, built, ended_size, IsFree, Ends, Mark, Close, width, size, size_errors, listed_trees, trees-listed, Span, Item, tag, array, row, Content, loose, tight, pairs, Fields, loose_fields, tight_fields, Stack, in_tag, in_array, State, has, node, nodes_in, entries_before, entries_in, faults, faults_before, faults_in, faults_before_pairs, faults_of_fields, noted, noted_stack, content_state, fields_state, AreFew, Comes, listed_entries, size_asked, front_of, front, Hands, count-trees, count_entries-entries, map_item as map, digits_of, integer_tree, is_below, argument_of, is_small, integer, bignum, number_node, Integer, Bignum, Tag, number, wants}
 use Rattle.cborn_edn.specs.devices.Events.{after}
-use Rattle.cborn_edn.proofs.Meaning.NoError.{no_left, no_right, held, tag_small}
+use Rattle.cborn_edn.proofs.Meaning.NoError.{no_left, no_right, tag_small}
 use Rattle.cborn_edn.proofs.HandedOver.Handing.{free}
 use Rattle.cborn_edn.proofs.HandedOver.Silent.{listed_snoc, listed_snoc_entry}
 

@@ -1,9 +1,8 @@
 -- What is whole after an event fits its heads.
 use Rattle.std.specs.Prelude.{◌≡◌, ◌<◌, ◌^◌, ◌∷◌, ◌++◌, if◌then◌else◌}
-use Rattle.cborn_edn.proofs.Common.{refl, sym, subst, ℕ, List, [], length, Bool, true, false, Some, None, arith, AreBytes, Width, Fixed, StringKind, OfBytes, OfText, WidthFits, holds, least, Tree, Uint, Nint, Simple, trees, entries, Fits, FitsAll, FitsEntries, ChunksFit, Opening, an_array, a_map, a_tag, in_chunks, Partial, top, inside, put, paired, last_of, chunks_of, chunks_tree, built, AreStrings, Ends, Event, Integer, Bignum, Map, Tag, String, NoChunks, Close, OpeningFits, FitsSoFar, AreFew, Comes, ByteNode as Bytes, TextNode as Text, EndlessMark as Endless, least_holds, count-trees, count_entries-entries, SimpleValue, FirstChunk, EventFits, ap, ◌∙◌, not, Option, and_parts, ltb-true, is_simple_value, Mark, MeaningError, IndicatorNotAllowed, BadSimple, is_absent, is_below, is_small, is_simple, argument_of, width, unless, width_errors, number_errors, tag_errors, simple_errors, first_error, is_none, Notes, IsTrue}
-use Rattle.cborn_edn.specs.declared.events.Event.TheVariants.{Array}
+use Rattle.cborn_edn.proofs.Common.{sym, ℕ, List, [], length, Bool, true, Some, None, arith, AreBytes, Width, StringKind, OfBytes, OfText, WidthFits, holds, least, Tree, trees, entries, Fits, FitsAll, FitsEntries, ChunksFit, Opening, Partial, put, paired, chunks_of, chunks_tree, built, AreStrings, Ends, Event, OpeningFits, FitsSoFar, AreFew, Comes, ByteNode as Bytes, TextNode as Text, least_holds, count-trees, count_entries-entries, EventFits, ap, ◌∙◌, Option, and_parts, ltb-true, is_simple_value, Mark, MeaningError, is_small, argument_of, width, number_errors, tag_errors, simple_errors, first_error, is_none, Notes, IsTrue}
 use Rattle.cborn_edn.specs.devices.Events.{after}
-use Rattle.cborn_edn.proofs.Meaning.NoError.{no_left, no_right, nil_is, held, width_fits, tag_small}
+use Rattle.cborn_edn.proofs.Meaning.NoError.{no_left, no_right, nil_is, width_fits, tag_small}
 use Rattle.std.proofs.lemmas.Bool.Decides.{nat_tests}
 use Rattle.cborn_edn.proofs.Meaning.Earliest.{none_first}
 

@@ -1,6 +1,6 @@
 -- One event is handed over: to the innermost speller, or to the visitor.
 use Rattle.std.specs.Prelude.{◌≡◌, ◌∷◌, ◌<◌, ◌^◌}
-use Rattle.cborn_edn.proofs.Common.{arith, refl, sym, ap, ◌∙◌, subst, ℕ, List, [], true, false, length, AreBytes, Partial, no_part, IsFree, IsWritten, Speller, is_nil, Event, Holds, FitsSoFar, Follows, Stack, in_row, in_key, in_value, in_tag, Nest, at_top, in_array, in_embed, State, nodes_before, noted, listed_trees, front_of, row_front, front, Handed, AllHanded, Hands, InnermostFollows, EventFits as Fits}
+use Rattle.cborn_edn.proofs.Common.{arith, refl, sym, ap, ◌∙◌, subst, ℕ, List, [], true, false, length, AreBytes, IsFree, IsWritten, Speller, is_nil, Event, Holds, Follows, Stack, in_row, in_key, in_value, in_tag, Nest, at_top, in_array, in_embed, State, nodes_before, noted, listed_trees, front_of, row_front, Handed, AllHanded, Hands, InnermostFollows, EventFits as Fits}
 use Rattle.cborn_edn.proofs.HandedOver.Fitting.{fits_after}
 
 -- what is true of each visitor is true of the innermost

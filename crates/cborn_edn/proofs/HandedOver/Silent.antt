@@ -1,6 +1,6 @@
 -- Tokens that hand nothing over.
 use Rattle.std.specs.Prelude.{◌≡◌, ◌∷◌, ◌++◌}
-use Rattle.cborn_edn.proofs.Common.{arith, refl, sym, ap, ◌∙◌, subst, ℕ, Bool, List, [], Option, Some, None, append_assoc, Tree, Trees, more, Entries, no_entry, entry, a_map, Partial, inside, no_part, put, Speller, Mark, Span, Item, simple, Piece, embedded, Pieces, piece, also, no_string, row, RowBefore, after_row, Content, loose, tight, pairs, PairsBefore, after_pairs, Stack, in_row, in_key, in_value, Nest, at_top, in_array, in_embed, Home, as_item, as_chunk, State, wants, has, builds, wants_chunk, wants_number, has_number, at_home, with_piece, node, faults_of_pieces, snoc, snoc_entry, nodes_before, entries_before, noted, noted_home, stack_of, stack_in, content_state, listed_trees, Holds, FitsSoFar, listed_entries, states_around, states_around_home, size_asked, front_of, row_front, front, Handed, AllHanded, no_node}
+use Rattle.cborn_edn.proofs.Common.{arith, refl, sym, ap, ◌∙◌, subst, ℕ, Bool, List, [], Option, append_assoc, Tree, Trees, more, Entries, no_entry, entry, Partial, no_part, put, Speller, Mark, Span, Item, simple, Piece, embedded, Pieces, also, no_string, row, RowBefore, after_row, Content, pairs, PairsBefore, after_pairs, Stack, in_row, in_key, in_value, Nest, at_top, in_array, in_embed, Home, State, wants, has, builds, wants_chunk, wants_number, has_number, at_home, with_piece, faults_of_pieces, snoc, snoc_entry, noted, noted_home, stack_of, stack_in, content_state, listed_trees, Holds, FitsSoFar, listed_entries, states_around, states_around_home, row_front, front, Handed, AllHanded, no_node}
 use Rattle.cborn_edn.proofs.Meaning.NoError.{no_left}
 use Rattle.cborn_edn.proofs.HandedOver.Handing.{stays}
 

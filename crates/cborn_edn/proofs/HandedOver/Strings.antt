@@ -1,10 +1,10 @@
 -- Strings that end, and their chunks.
-use Rattle.std.specs.Prelude.{◌≡◌, ◌^◌, ◌<◌, ◌∷◌, ◌++◌, ◌&&◌, if◌then◌else◌}
-use Rattle.cborn_edn.proofs.Common.{refl, sym, ap, ◌∙◌, subst, ℕ, List, [], length, map, Bool, true, false, arith, append_assoc, map-append, Width, Chunk, StringKind, OfBytes, OfText, WidthFits, least, Partial, top, inside, an_array, a_map, a_tag, in_chunks, put, IsFree, TakesString, string_tree, chunks_tree, MixedChunks, Event, String, NoChunks, Close, Joint, width, is_endless, same_kind, Str, said_string, chunk, chunked_node, string_node, mark_errors, chunk_errors, Span, Pieces, string, chunked, Strings, strings, StringsBefore, no_string, after_strings, depth_of_pieces, Stack, as_item, as_chunk, wants, has, builds, wants_chunk, str, kind_in, chunks, faults_of_pieces, faults_of_strings, noted, noted_stack, pieces_bytes, joint, kind_before, Comes, front_of, Hands, string_event, chunk_event, ProfileTwo as Two, strings_held, EventFits as Fits}
+use Rattle.std.specs.Prelude.{◌≡◌, ◌^◌, ◌<◌, ◌++◌}
+use Rattle.cborn_edn.proofs.Common.{sym, ap, ◌∙◌, ℕ, List, [], length, Bool, true, false, arith, append_assoc, map-append, Width, Chunk, StringKind, OfText, WidthFits, least, Partial, put, IsFree, TakesString, string_tree, chunks_tree, String, Close, Joint, width, same_kind, Str, said_string, chunk, chunked_node, string_node, mark_errors, chunk_errors, Span, Pieces, string, chunked, Strings, strings, StringsBefore, no_string, after_strings, depth_of_pieces, Stack, as_item, as_chunk, wants, has, builds, wants_chunk, str, kind_in, faults_of_pieces, faults_of_strings, noted, noted_stack, pieces_bytes, joint, kind_before, Comes, front_of, Hands, string_event, chunk_event, ProfileTwo as Two, strings_held, EventFits as Fits}
 use Rattle.cborn_model.specs.shared.Walks.{string_of}
 use Rattle.cborn_edn.specs.devices.Events.{after}
 use Rattle.cborn_edn.proofs.Short.Derived.{derived_pieces}
-use Rattle.cborn_edn.proofs.Meaning.NoError.{no_left, no_right, held, known_pieces, mark_fits}
+use Rattle.cborn_edn.proofs.Meaning.NoError.{no_left, no_right, known_pieces, mark_fits}
 use Rattle.cborn_edn.proofs.Reader.Showing.{known_bytes}
 use Rattle.cborn_edn.proofs.Reader.Settling.{text_item, text_node}
 use Rattle.cborn_edn.proofs.HandedOver.Handing.{free}

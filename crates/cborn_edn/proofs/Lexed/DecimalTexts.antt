@@ -1,6 +1,6 @@
 -- Numbers and tags of the fixed notation, as pieces.
-use Rattle.std.specs.Prelude.{◌≡◌, ◌+◌, ◌*◌, ◌^◌, ◌<◌, ◌%◌, ◌∷◌, ◌++◌, ◌||◌}
-use Rattle.cborn_edn.proofs.Common.{refl, sym, ap, ◌∙◌, subst, ℕ, suc, List, [], length, get_or, Bool, true, false, not, eqb, inl, inr, Ok, Some, decimal, append-nil, arith, and_from, and_right, cond-true, cond-false, ne_eqb, cases_lt, decimal_digit, decimal_is_IsNumeral_wide, decimal_by_steps_wide, codes, list_all, is_digit, digit_value, Mark, Absent, Wide, Class, Number, TagOpen, Read, begins, is_numeral, are_digits, within, has_prefix, number_front, signed, Start, digit, start_of, ReadsFrom, ReadsNumber, Direct, token, nowhere, indicator, length-append, ProfileOne, passes, passes_at, digit_starts, within_back}
+use Rattle.std.specs.Prelude.{◌≡◌, ◌+◌, ◌^◌, ◌<◌, ◌%◌, ◌∷◌, ◌++◌, ◌||◌}
+use Rattle.cborn_edn.proofs.Common.{refl, sym, ap, ◌∙◌, subst, ℕ, suc, List, [], length, get_or, Bool, true, false, not, eqb, inl, inr, Ok, Some, decimal, append-nil, arith, and_from, and_right, cond-true, cond-false, ne_eqb, cases_lt, decimal_digit, decimal_is_IsNumeral_wide, decimal_by_steps_wide, codes, list_all, is_digit, digit_value, Mark, Class, Number, TagOpen, Read, begins, is_numeral, are_digits, within, has_prefix, number_front, signed, Start, digit, start_of, ReadsFrom, ReadsNumber, token, nowhere, indicator, length-append, ProfileOne, passes, passes_at, digit_starts, within_back}
 use Rattle.std.proofs.Math.ListN.{get_or-append}
 use Rattle.std.proofs.lemmas.Str.Parse.{digit_from_value}
 use Rattle.std.specs.Str.Parse.{AllDigits, digits_value_after}

@@ -1,6 +1,6 @@
 -- Indicators, brackets and separators of the fixed notation, as pieces.
-use Rattle.std.specs.Prelude.{◌≡◌, ◌∷◌, ◌++◌, ◌==◌, ◌||◌}
-use Rattle.cborn_edn.proofs.Common.{arith, refl, sym, ap, subst, ℕ, List, [], length, Bool, true, false, eqb, cond, Some, codes, lt-ltb, or_parts, cond-true, Width, Direct, One, Two, Four, Eight, Size, Fixed, following, least, WidthFits, SizeFits, Mark, Absent, Endless, Wide, Class, ArrayOpen, MapOpen, ParenClose, Comma, Colon, ChunkOpen, Read, begins, is_word, is_numeral, mark_of, marked, IsIndicator, token, nowhere, mark_for, mark_for_size, indicator, opened, ProfileOne, EndlessMark}
+use Rattle.std.specs.Prelude.{◌≡◌, ◌∷◌, ◌++◌, ◌||◌}
+use Rattle.cborn_edn.proofs.Common.{arith, refl, sym, ap, ℕ, List, [], false, eqb, Some, codes, Width, Direct, Size, WidthFits, SizeFits, Mark, Absent, Endless, Wide, Class, ArrayOpen, MapOpen, ParenClose, Comma, Colon, ChunkOpen, Read, begins, is_word, is_numeral, mark_of, marked, IsIndicator, token, nowhere, mark_for, mark_for_size, indicator, opened, ProfileOne}
 use Rattle.cborn_lex.specs.Forms.{Reads}
 use Rattle.cborn_edn.proofs.Lexed.Chained.{Chained, one_token, one_white_space, both}
 

@@ -28,7 +28,7 @@ is_written b = bytes_eq (escaped b) (written (letter_of b)) && (is_letter 34 (le
 
 each_written : passes is_written 0 256 ≡ true
 unfolding encode_with lib.Utf8.encode
-each_written  = grind arith
+each_written = grind arith
 
 is_written_at : (b : ℕ) → b < 256 → (escaped b ≡ written (letter_of b)) × (is_letter 34 (letter_of b) ≡ true) × (meant (letter_of b) ≡ b ∷ []) × (is_content 34 (escaped b) ≡ true)
 is_written_at b h =

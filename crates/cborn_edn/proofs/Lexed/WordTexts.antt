@@ -1,6 +1,6 @@
 -- Simple values of the fixed notation, as pieces.
-use Rattle.std.specs.Prelude.{◌≡◌, ◌<◌, ◌≤◌, ◌∷◌, ◌++◌}
-use Rattle.cborn_edn.proofs.Common.{refl, sym, ◌∙◌, subst, ℕ, List, [], Bool, true, false, eqb, cond, inl, inr, decimal, append-nil, arith, cond-true, cond-false, lt-ltb, le-ltb, eqb-true, eqb-false, cases_Bool, cases_lt, codes, Absent, Number, Word, SimpleOpen, ParenClose, begins, Item, simple, token, tokens_of, nowhere, simple_item, shown_simple}
+use Rattle.std.specs.Prelude.{◌≡◌, ◌<◌, ◌∷◌, ◌++◌}
+use Rattle.cborn_edn.proofs.Common.{refl, sym, subst, ℕ, List, [], false, eqb, inl, inr, decimal, append-nil, arith, eqb-true, cases_Bool, codes, Absent, Number, Word, SimpleOpen, ParenClose, begins, Item, simple, token, tokens_of, nowhere, simple_item, shown_simple}
 use Rattle.cborn_edn.proofs.Lexed.Chained.{Chained, one_token, both}
 use Rattle.cborn_edn.proofs.Lexed.MarkTexts.{Closes, closes, paren_close}
 use Rattle.cborn_edn.proofs.Lexed.DecimalTexts.{number_text}

@@ -1,6 +1,6 @@
 -- The first of several meaning errors: there is one where there is any, and it is the first of the first ones of two parts.
 use Rattle.std.specs.Prelude.{◌≡◌, ◌+◌, ◌*◌, ◌<◌, ◌≤◌, ◌∷◌, ◌++◌, ◌&&◌, ◌||◌}
-use Rattle.cborn_edn.proofs.Common.{refl, sym, ap, subst, ◌∙◌, ℕ, List, [], Bool, true, false, cond, leb, ltb, eqb, Option, Some, None, arith, leb-true, leb-false, le-leb, lt-leb, ltb-true, ltb-false, eqb-true, eqb-false, EdnReason, UnexpectedToken, MeaningError, number_of, IsAmong, earlier, first_error, append-nil, append_assoc, is_nil, is_none, Notes}
+use Rattle.cborn_edn.proofs.Common.{refl, sym, ap, subst, ◌∙◌, ℕ, List, [], Bool, true, false, cond, leb, ltb, eqb, Option, Some, None, arith, leb-true, leb-false, EdnReason, MeaningError, number_of, IsAmong, earlier, first_error, append-nil, append_assoc, is_nil, is_none, Notes}
 use Rattle.cborn_model.specs.First.{NoLater, IsFirst}
 use Rattle.cborn_model.proofs.Firsts.{no_later_on, first_alone, first_left, first_right}
 

@@ -1,6 +1,6 @@
 -- What one number, one string, its chunks, an array and a map spell without a meaning error: bytes, not many of them, which fit their widths if they are fewer than 2^64.
-use Rattle.std.specs.Prelude.{◌≡◌, ◌+◌, ◌^◌, ◌<◌, ◌≤◌, ◌∷◌, ◌++◌, ◌&&◌, if◌then◌else◌}
-use Rattle.cborn_edn.proofs.Common.{refl, ℕ, zero, suc, List, [], length, Bool, true, false, cond, arith, flat_map, digits_of, ltb-true, length-append, length-digits_of-le, all_below_base_digits_of, AreBytes, Direct, Size, Fixed, Major, Unsigned, Negative, ByteString, TextString, Array, Chunk, least, Argument, Given, EndlessArgument, head, argument, WidthFits, SizeFits, chunk_bytes, spelled, spelled_all, spelled_entries, ChunksFit, Fits, Tree, Uint, Nint, Items, Pairs, Tagged, Trees, more, Entries, no_entry, entry, count, count_entries, Mark, Absent, Endless, Wide, IndicatorNotAllowed, StringKind, OfBytes, OfText, width, size, is_absent, unless, width_errors, size_errors, is_below, argument_of, is_small, integer, bignum, number_node, number_errors, is_endless, Str, chunked_node, string_node, said_string, mark_errors, string_errors, ByteNode, no_node as no_item, depth_of_number, bytes-append, EndlessMark as EndlessSize, MapHead, TagHead, least_holds, head_bytes}
+use Rattle.std.specs.Prelude.{◌≡◌, ◌+◌, ◌^◌, ◌<◌, ◌≤◌, ◌∷◌, ◌++◌, ◌&&◌}
+use Rattle.cborn_edn.proofs.Common.{refl, ℕ, suc, List, [], length, Bool, true, false, cond, arith, flat_map, digits_of, ltb-true, length-append, length-digits_of-le, all_below_base_digits_of, AreBytes, Direct, Size, Major, Unsigned, Negative, ByteString, TextString, Array, Chunk, least, Argument, Given, head, argument, WidthFits, SizeFits, chunk_bytes, spelled, spelled_all, spelled_entries, ChunksFit, Fits, Tree, Uint, Nint, Items, Pairs, Tagged, Trees, more, Entries, no_entry, entry, count, count_entries, Mark, IndicatorNotAllowed, StringKind, OfBytes, OfText, width, size, is_absent, unless, width_errors, size_errors, is_below, argument_of, is_small, integer, bignum, number_node, number_errors, is_endless, Str, chunked_node, string_node, said_string, mark_errors, string_errors, ByteNode, no_node as no_item, depth_of_number, bytes-append, MapHead, TagHead, least_holds, head_bytes}
 use Rattle.cborn_model.specs.Spelled.{ending, string}
 use Rattle.cborn_model.specs.Tree.{depth}
 use Rattle.cborn_edn.proofs.Meaning.NoError.{no_left, width_fits, size_fits, mark_fits}

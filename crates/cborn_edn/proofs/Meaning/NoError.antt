@@ -1,7 +1,7 @@
 -- What is known where there is no meaning error: an argument, a count or a length below 2^64 fits its width.
-use Rattle.std.specs.Prelude.{◌≡◌, ◌^◌, ◌<◌, ◌∷◌, ◌++◌, if◌then◌else◌}
-use Rattle.cborn_edn.proofs.Common.{arith, refl, ap, ℕ, List, [], length, Bool, true, false, ltb, cond, ltb-true, and_from, Width, Direct, holds, WidthFits, SizeFits, Mark, Absent, Endless, Wide, Token, Profile, MeaningError, EdnReason, IndicatorTooNarrow, IndicatorNotAllowed, TagTooLarge, width, size, unless, width_errors, size_errors, tag_errors, Str, is_endless, is_nil, mark_errors, IsPiece, text_piece, byte_piece, ArePieces, least_holds}
-use Rattle.cborn_edn.specs.Grammar.{embedded, piece, also}
+use Rattle.std.specs.Prelude.{◌≡◌, ◌^◌, ◌<◌, ◌∷◌, ◌++◌}
+use Rattle.cborn_edn.proofs.Common.{arith, refl, ℕ, List, [], length, Bool, true, and_from, WidthFits, SizeFits, Mark, Token, Profile, MeaningError, EdnReason, width, size, unless, width_errors, size_errors, tag_errors, Str, is_nil, mark_errors, IsPiece, ArePieces}
+use Rattle.cborn_edn.specs.Grammar.{piece, also}
 
 pub no_left : {A : Type 0} (x y : List A) → x ++ y ≡ [] → x ≡ []
 no_left [] y e = refl

@@ -1,6 +1,6 @@
 -- A block of up to 64 characters at once: how many come before the first of a kind.
 use Rattle.std.specs.Prelude.{◌≡◌, ◌+◌, ◌<◌, ◌≤◌, ◌^◌, ◌%◌, ◌∷◌}
-use Rattle.cborn_edn.proofs.Common.{refl, sym, ap, ap₂, ◌∙◌, subst, ℕ, zero, suc, List, [], length, take, drop, get_or, map, replicate, Bool, true, false, not, cond, eqb, arith, and_parts, and_from, eq-eqb, eqb-true, ne_eqb, cond-true, cond-false, false≢true, take-take, length-map, list_all, prefix_len, Profile, is_white, is_not, TokensBetween}
+use Rattle.cborn_edn.proofs.Common.{refl, sym, ap, ap₂, ◌∙◌, subst, ℕ, zero, suc, List, [], length, take, drop, get_or, map, replicate, Bool, true, false, not, cond, eqb, arith, and_parts, eq-eqb, eqb-true, ne_eqb, cond-true, cond-false, false≢true, take-take, length-map, list_all, prefix_len, Profile, is_white, is_not, TokensBetween}
 use Rattle.std.proofs.lemmas.List.Sums.{prefix_len-le-length}
 use Rattle.std.proofs.lemmas.Simd.{zip2_splat, map-map, mask_l-mod, first_set_mask_l, length-chunk, run_in_chunk_stops}
 use Rattle.std.specs.Simd.Lanes.{zip2, mask_l, top}

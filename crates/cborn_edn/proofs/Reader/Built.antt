@@ -1,6 +1,6 @@
 -- What is shown while a string is built, and after it.
 use Rattle.std.specs.Prelude.{◌≡◌, ◌-◌, ◌∷◌, ◌++◌, ◌&&◌}
-use Rattle.cborn_edn.proofs.Common.{refl, sym, ap, ◌∙◌, subst, ℕ, List, length, take, drop, Bool, true, false, Option, Some, None, append-nil, append_assoc, arith, take-append_seam, drop-append_seam, length-append, take_rest, same_Some, Speller, Mark, MeaningError, StringKind, OfBytes, OfText, Str, is_nil, same_kind, unless, string_errors, chunk_errors, piece_errors, MixedChunks, first_error, Notes, Span, Piece, Pieces, Strings, strings, StringsBefore, no_string, after_strings, string, chunked, str, str_of, kind_in, faults_of_pieces, faults_of_strings, Here, Writer, Joint, Chunks, Has, Builds, WantsChunk, noted, strings_noted, noted_stack, noted_home, stack_of, bytes_around, bytes_around_home, bytes_before, piece_bytes, pieces_bytes, joint, kind_before, kind_or, Shows, piece_of, Holds, states_around, AllHanded, Reads, Stack, Home, as_item, as_chunk, has, builds, wants_chunk, with_piece, at_home, State, stack_in, string_in, chunks_in, bytes_open, IsOpenAt, level_of, count_of, brackets_of, arounds_of, phase_of}
+use Rattle.cborn_edn.proofs.Common.{refl, sym, ap, ◌∙◌, subst, ℕ, List, length, take, drop, Bool, true, false, Option, Some, None, append-nil, append_assoc, arith, take-append_seam, drop-append_seam, length-append, take_rest, same_Some, Speller, Mark, MeaningError, StringKind, OfText, Str, is_nil, same_kind, string_errors, chunk_errors, piece_errors, first_error, Notes, Span, Piece, Pieces, Strings, strings, StringsBefore, after_strings, string, chunked, str, kind_in, faults_of_pieces, faults_of_strings, Here, Writer, Joint, Chunks, Has, Builds, WantsChunk, noted, strings_noted, noted_stack, noted_home, stack_of, bytes_around, bytes_around_home, bytes_before, piece_bytes, pieces_bytes, joint, kind_before, kind_or, Shows, piece_of, Holds, states_around, AllHanded, Reads, Stack, Home, as_item, as_chunk, has, builds, wants_chunk, with_piece, at_home, State, stack_in, string_in, chunks_in, bytes_open, IsOpenAt, level_of, count_of, brackets_of, arounds_of, phase_of}
 use Rattle.cborn_edn.proofs.Reader.Joints.{known_joint}
 use Rattle.cborn_edn.proofs.Reader.Showing.{Standing, standing, first_joint, bytes_same, piece_str}
 

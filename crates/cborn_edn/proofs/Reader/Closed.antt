@@ -1,6 +1,6 @@
 -- What is shown after a bracket that opens, and after one that ends.
 use Rattle.std.specs.Prelude.{◌≡◌, ◌∷◌, ◌++◌, if◌then◌else◌}
-use Rattle.cborn_edn.proofs.Common.{arith, refl, sym, ap, ◌∙◌, subst, ℕ, List, [], length, Bool, true, false, Option, Some, None, append-nil, append_assoc, Tree, trees, spelled_all, top, no_part, OfBytes, IsWritten, Speller, Mark, Absent, MeaningError, is_nil, Str, joined, piece_errors, size_errors, first_error, earlier, is_none, Notes, listed_trees, trees-listed, Span, Item, embedded, Pieces, row, Content, loose, tight, pairs, Fields, loose_fields, tight_fields, no_item, node, str, str_of, nodes_before, nodes_in, faults, faults_in, faults_of_pieces, noted, noted_stack, noted_home, stack_of, stack_in, bracket, brackets_of, brackets_home, around, arounds_of, arounds_home, bytes_around, bytes_around_home, bytes_before, piece_bytes, pieces_bytes, joint, Shows, content_state, fields_state, entries_at, states_around, states_around_nest, Handed, IsSpelled, Here, Writer, OpenBracket, Around, Joint, Has, Builds, Wants, Stack, in_row, Nest, in_embed, Home, State, wants, has, builds, with_piece, at_home, Embedded}
+use Rattle.cborn_edn.proofs.Common.{arith, refl, sym, ap, ◌∙◌, subst, ℕ, List, [], length, Bool, true, false, Option, Some, None, append-nil, append_assoc, Tree, trees, spelled_all, top, no_part, OfBytes, IsWritten, Speller, Mark, Absent, MeaningError, is_nil, Str, joined, piece_errors, size_errors, first_error, earlier, is_none, Notes, listed_trees, trees-listed, Span, Item, embedded, Pieces, Content, Fields, no_item, str, str_of, nodes_in, faults, faults_in, faults_of_pieces, noted_stack, noted_home, stack_of, stack_in, bracket, brackets_of, brackets_home, around, arounds_of, arounds_home, bytes_around, bytes_around_home, bytes_before, piece_bytes, pieces_bytes, joint, Shows, content_state, fields_state, entries_at, states_around, states_around_nest, Handed, IsSpelled, Here, Writer, OpenBracket, Around, Joint, Has, Builds, Wants, Stack, in_row, Nest, in_embed, Home, State, wants, has, builds, with_piece, at_home, Embedded}
 use Rattle.cborn_edn.proofs.Meaning.NoError.{nil_is}
 use Rattle.cborn_edn.proofs.Meaning.Earliest.{earlier_noted, none_first}
 use Rattle.cborn_edn.proofs.Reader.Showing.{brackets_same, arounds_same, bytes_same, standing}

@@ -1,6 +1,6 @@
 -- How many items or pairs a bracket has, and how many brackets are open.
 use Rattle.std.specs.Prelude.{◌≡◌, ◌≤◌, ◌++◌, ◌∷◌}
-use Rattle.cborn_edn.proofs.Common.{refl, ap, ℕ, suc, List, [], length, arith, length-append, count, count_entries, Comma, MapOpen, Colon, ChunkOpen, SimpleOpen, Number, Profile, token, row, RowBefore, no_item, after_row, pairs, PairsBefore, no_pair, after_pairs, tokens_of, tokens_of_pieces, tokens_of_row, tokens_of_row_before, tokens_of_pairs, tokens_of_pairs_before, tokens_of_strings_before, node, nodes_before, entries_before, Here, Writer, stack_of, stack_in, count_of, brackets_of, brackets_nest, brackets_home, Shows, Reached, Stack, in_row, in_key, in_value, in_tag, Nest, at_top, in_array, in_embed, Home, as_item, as_chunk, State, wants, has, builds, wants_chunk, wants_number, has_number, held_stack, held_nest, held_home, held, levels, levels_nest, levels_home, open_levels, few}
+use Rattle.cborn_edn.proofs.Common.{refl, ap, ℕ, suc, List, [], length, arith, length-append, count, count_entries, Comma, Colon, Profile, token, row, RowBefore, no_item, after_row, pairs, PairsBefore, no_pair, after_pairs, tokens_of, tokens_of_row, tokens_of_row_before, tokens_of_pairs, tokens_of_pairs_before, node, nodes_before, entries_before, Here, Writer, stack_of, stack_in, count_of, brackets_of, brackets_nest, brackets_home, Shows, Reached, Stack, in_row, in_key, in_value, in_tag, Nest, at_top, in_array, in_embed, Home, as_item, as_chunk, State, held_stack, held_home, held, levels, levels_nest, levels_home, open_levels, few}
 use Rattle.cborn_edn.proofs.Reader.Rows.{count-snoc, count-snoc_entry}
 
 few_before : (b : RowBefore) → count (nodes_before b) ≤ length (tokens_of_row_before b)

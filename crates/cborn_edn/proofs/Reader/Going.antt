@@ -2,7 +2,6 @@
 use Rattle.std.specs.Prelude.{◌≡◌, ◌+◌, ◌<◌, ◌≤◌, ◌∷◌, ◌++◌, ◌⊎◌}
 use Rattle.cborn_edn.proofs.Common.{refl, sym, ap, ◌∙◌, subst, ℕ, List, [], length, Bool, true, false, cond, leb, Option, Some, None, append_assoc, append-nil, inl, inr, arith, max, le-leb, lt-leb, TokensBetween, HasNoTokens, HasNoTokenFrom, class_of, Kind, Class, Profile, Token, LexFault, AreModest, EdnReason, UnexpectedToken, TooDeep, EdnFault, Refused, Span, span, token, after_row, after_pairs, IsNoNotation, lexical, reach, Phase, WantsMore, phase_of, is_trailing_comma, Reached, ProfileOne as One, ProfileTwo as Two, in_row, in_key, at_top, in_array, in_embed, State, wants, start, step, step_by, held, open_levels, comma_at, Answer, forbids, checked, parse, joins, whole_text, whole_stop, stops}
 use Rattle.cborn_lex.specs.declared.classes.Kind.TheVariants as kinds
-use Rattle.cborn_lex.specs.declared.faults.LexFault.TheVariants.{Refused as LexRefused, OutOfMemory as LexOutOfMemory}
 use Rattle.cborn_lex.proofs.WholeTexts.Progress.{nothing}
 use Rattle.cborn_edn.proofs.Grammar.Held.{deep, commas_held, After, Grows}
 use Rattle.cborn_edn.proofs.Grammar.Grows.{grows}

@@ -1,6 +1,6 @@
 -- Which state is shown, by the phase and the level.
 use Rattle.std.specs.Prelude.{◌≡◌, ◌<◌}
-use Rattle.cborn_edn.proofs.Common.{refl, sym, ap, ◌∙◌, subst, ℕ, List, length, Bool, true, false, Option, Some, None, arith, Mark, EmbedClose, ParenClose, Comma, Colon, Span, Item, Pieces, row, RowBefore, no_item, after_row, Content, loose, tight, pairs, PairsBefore, no_pair, after_pairs, loose_fields, tight_fields, array, embedded, Phase, Has, Here, Writer, level_of, stack_in, phase_of, brackets_of, Shows, content_state, Sized, of_array, of_map, is_in, is_row, ends_sized, sized_end, MayEnd, Stack, in_row, in_key, in_value, in_tag, Nest, at_top, in_array, in_embed, Home, State, wants, has, builds, with_piece, step_by, never, map_item as map, Level}
+use Rattle.cborn_edn.proofs.Common.{refl, ℕ, List, length, Bool, true, false, Option, Some, None, arith, Mark, EmbedClose, ParenClose, Comma, Colon, Span, Item, Pieces, row, RowBefore, no_item, after_row, Content, loose, tight, pairs, PairsBefore, loose_fields, tight_fields, array, embedded, Phase, Has, Here, Writer, level_of, stack_in, phase_of, Shows, content_state, Sized, of_array, of_map, is_in, is_row, ends_sized, sized_end, MayEnd, Stack, in_row, in_key, in_value, in_tag, Nest, at_top, in_array, in_embed, Home, State, wants, has, builds, with_piece, step_by, never, map_item as map, Level}
 use Rattle.cborn_edn.specs.declared.states.Level.TheVariants as levels
 
 -- a state that may end

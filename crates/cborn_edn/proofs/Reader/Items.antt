@@ -1,6 +1,6 @@
 -- Tokens of numbers, strings and brackets from what was found at a place of a text.
 use Rattle.std.specs.Prelude.{◌≡◌, ◌+◌, ◌<◌, ◌≤◌, ◌∷◌, ◌++◌}
-use Rattle.cborn_edn.proofs.Common.{not-true, opening, opening_character, refl, sym, ap, ◌∙◌, subst, ℕ, List, [], length, take, drop, get_or, Bool, true, false, not, eqb, Some, Ok, arith, append_assoc, append-nil, ne_eqb, eqb-true, false≢true, take-append-drop, length-take-le, drop-drop, Profile, Mark, Absent, Class, Number, TagOpen, Text, EmbedClose, ChunkOpen, begins, is_numeral, is_word, mark_of, signed, list_all, IsUtf8, is_content, is_plain, LettersSoFar, IsRun, IsIndicator, IsMark, IsNumeral, TokensBetween, IsTokenAt, NoPieceAt, IsTextAt, length-append, none_yet, run_more, letters_end}
+use Rattle.cborn_edn.proofs.Common.{not-true, opening, opening_character, refl, sym, ap, ◌∙◌, subst, ℕ, List, [], length, take, drop, get_or, Bool, true, false, not, eqb, Some, Ok, arith, append_assoc, append-nil, ne_eqb, take-append-drop, length-take-le, drop-drop, Profile, Mark, Absent, Class, Number, TagOpen, Text, EmbedClose, ChunkOpen, begins, is_numeral, is_word, mark_of, signed, list_all, IsUtf8, is_content, is_plain, LettersSoFar, IsRun, IsIndicator, IsMark, IsNumeral, TokensBetween, IsTokenAt, NoPieceAt, IsTextAt, length-append, none_yet, run_more, letters_end}
 use Rattle.cborn_lex.specs.Numbers.{integer}
 use Rattle.cborn_lex.specs.Strings.{IsText}
 use Rattle.cborn_lex.specs.Good as good

@@ -1,7 +1,6 @@
 -- Tokens as a text has them, heads that are bytes, and the bytes of long integers.
-use Rattle.std.specs.Prelude.{◌≡◌, ◌+◌, ◌*◌, ◌^◌, ◌<◌, ◌≤◌, ◌∷◌, ◌++◌, ◌/◌, ◌%◌}
-use Rattle.cborn_edn.proofs.Common.{refl, sym, subst, ℕ, List, [], Bool, true, false, ltb, arith, ltb-true, ltb-false, le-ltb, AreBytes, Eight, Major, Unsigned, code, holds, least, Given, head, Mark, Absent, Endless, Wide, Token, AreModest, IndicatorTooNarrow, width, width_errors, least_holds, head_bytes, ap, ◌∙◌, append_assoc, digits_of, digits_of_step}
-use Rattle.cborn_edn.proofs.Meaning.NoError.{held}
+use Rattle.std.specs.Prelude.{◌≡◌, ◌^◌, ◌<◌, ◌≤◌, ◌∷◌, ◌++◌, ◌/◌, ◌%◌}
+use Rattle.cborn_edn.proofs.Common.{ℕ, List, [], arith, AreBytes, Eight, Major, least, Given, head, Mark, Token, AreModest, width, width_errors, append_assoc, digits_of, digits_of_step}
 
 -- what is known of the tokens between two places of a text
 pub modest_left : (x y : List Token) → AreModest (x ++ y) → AreModest x

@@ -1,9 +1,8 @@
 -- The token after a string that is known to end.
 use Rattle.std.specs.Prelude.{◌++◌, ◌≡◌, ◌+◌, ◌∷◌}
-use Rattle.cborn_edn.proofs.Common.{Option, Some, None, Mark, EmbedClose, marked, mark_of, refl, sym, ap, ◌∙◌, subst, ℕ, List, [], length, drop, get_or, true, eqb, inl, inr, arith, eqb-true, or_cases, drop_all, codes, list_any, AllByRecursion, Profile, Class, ArrayClose, MapClose, ParenClose, Comma, Colon, Token, WhiteSpace, Read, Start, single, start_of, ReadsFrom, Covers, TokensBetween, ends_string, NoPieceAt, EndsPieces, never}
+use Rattle.cborn_edn.proofs.Common.{Option, Mark, EmbedClose, marked, mark_of, refl, sym, subst, ℕ, List, [], drop, get_or, true, eqb, inl, inr, arith, eqb-true, or_cases, drop_all, codes, list_any, AllByRecursion, Profile, Class, ArrayClose, MapClose, ParenClose, Comma, Colon, Token, WhiteSpace, Read, Start, single, start_of, ReadsFrom, Covers, TokensBetween, ends_string, NoPieceAt, EndsPieces, never}
 use Rattle.cborn_lex.specs.Tokens.{Bad, Front}
 use Rattle.cborn_lex.specs.Forms.{Reads}
-use Rattle.cborn_lex.specs.Good as good
 use Rattle.cborn_lex.proofs.GoodBack.{read}
 use Rattle.cborn_edn.proofs.Reader.CommonTokens.{begins_here}
 

@@ -1,6 +1,6 @@
 -- What is shown after a number, a word or the number of a simple value.
 use Rattle.std.specs.Prelude.{◌≡◌, ◌∷◌, ◌++◌}
-use Rattle.cborn_edn.proofs.Common.{arith, refl, sym, ap, ◌∙◌, ℕ, List, length, Bool, Option, Speller, Mark, simple_errors, MeaningError, first_error, Notes, Span, Here, Writer, noted, noted_stack, phase_of, stack_in, level_of, count_of, brackets_of, arounds_of, bytes_around, string_in, chunks_in, bytes_open, Shows, IsOpenAt, Wants, wanting, Holds, states_around, AllHanded, Reads, Stack, State, wants, Level}
+use Rattle.cborn_edn.proofs.Common.{arith, refl, ap, ◌∙◌, ℕ, List, length, Bool, Option, Speller, Mark, simple_errors, MeaningError, first_error, Notes, Span, Here, Writer, noted, noted_stack, phase_of, stack_in, level_of, count_of, brackets_of, arounds_of, bytes_around, string_in, chunks_in, bytes_open, Shows, IsOpenAt, Wants, wanting, Holds, states_around, AllHanded, Reads, Stack, State, wants, Level}
 
 -- a leaf was taken, which changes neither what is open nor the pieces
 pub leaf_shown : {here : Here} {w left : Writer} {written more : List ℕ} (s u : State) (new : Option MeaningError) → left ≡ record w { pieces = left.pieces; spellers = left.spellers; error = new } → more ≡ written → stack_in s ≡ stack_in u → string_in s ≡ string_in u → chunks_in s ≡ chunks_in u → bytes_open s ≡ bytes_open u

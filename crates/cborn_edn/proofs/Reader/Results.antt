@@ -1,6 +1,6 @@
 -- What holds of an answer in case of success.
-use Rattle.cborn_edn.proofs.Common.{arith, sym, subst, IfOk, IfErr, IsErrAnd}
-use Rattle.std.specs.Prelude.{◌≡◌, Result, Ok, Err, OnOk}
+use Rattle.cborn_edn.proofs.Common.{arith, IfOk, IfErr, IsErrAnd}
+use Rattle.std.specs.Prelude.{◌≡◌, Result, OnOk}
 pub use Rattle.cborn_model.proofs.HandedOver.{on_ok}
 
 pub both_ok : {A E : Type 0} (r : Result A E) {P Q R : Type 0} → (P → Q → R) → OnOk r P → OnOk r Q → OnOk r R

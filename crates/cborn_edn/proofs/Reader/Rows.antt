@@ -1,7 +1,7 @@
 -- What is shown before the bracket that ends a row or a map.
 use Rattle.std.specs.Prelude.{◌≡◌, ◌+◌, ◌<◌, ◌^◌, ◌∷◌, ◌++◌}
 use Rattle.cborn_edn.specs.declared.states.Level.TheVariants.{Value}
-use Rattle.cborn_edn.proofs.Common.{Wants, refl, ap, ◌∙◌, ℕ, suc, List, length, None, append_assoc, arith, Tree, Trees, more, Entries, no_entry, entry, count, count_entries, Mark, first_error, snoc, snoc_entry, node, nodes_before, nodes_in, entries_before, entries_in, faults, faults_before, faults_in, faults_before_pairs, faults_of_fields, Span, Item, row, RowBefore, no_item, after_row, Content, loose, tight, pairs, PairsBefore, no_pair, after_pairs, Fields, loose_fields, tight_fields, MeaningError, Around, Here, OpenBracket, Writer, Phase, Has, WantsMore, noted_stack, noted_nest, level_of, bracket, brackets_of, brackets_nest, arounds_of, arounds_nest, bytes_around, bytes_around_nest, Shows, content_state, fields_state, entries_at, no_node, Stack, in_row, in_key, in_value, Nest, at_top, in_array, in_embed, has, wants, State, stack_in, string_in, chunks_in, bytes_open, phase_of, count_of, wanting, noted, Key}
+use Rattle.cborn_edn.proofs.Common.{Wants, refl, ap, ◌∙◌, ℕ, suc, List, length, None, append_assoc, arith, Tree, Trees, more, Entries, no_entry, entry, count, count_entries, Mark, first_error, snoc, snoc_entry, nodes_in, entries_in, faults_in, faults_of_fields, Span, Item, row, RowBefore, after_row, Content, pairs, PairsBefore, after_pairs, Fields, MeaningError, Around, Here, OpenBracket, Writer, Phase, WantsMore, noted_stack, noted_nest, level_of, bracket, brackets_of, brackets_nest, arounds_of, arounds_nest, bytes_around, bytes_around_nest, Shows, content_state, fields_state, entries_at, no_node, Stack, in_row, in_key, in_value, Nest, has, wants, State, stack_in, string_in, chunks_in, bytes_open, phase_of, count_of, wanting, noted, Key}
 
 pub count-snoc : (ts : Trees) (t : Tree) → count (snoc ts t) ≡ suc (count ts)
 count-snoc no_node t = refl

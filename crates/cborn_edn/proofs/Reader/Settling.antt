@@ -1,9 +1,7 @@
 -- A string that no other piece follows is an item.
 use Rattle.std.specs.Prelude.{◌≡◌, ◌∷◌, ◌++◌}
-use Rattle.cborn_edn.proofs.Common.{arith, refl, sym, ap, ◌∙◌, ℕ, List, [], length, cond, leb, Option, Some, None, is_utf8-from_IsUtf8, IsUtf8, least, Absent, Profile, Token, MeaningError, unless, TextNotUtf8, first_error, reach, Span, span, Item, Pieces, piece, text, string, node, faults, NoPieceAt, noted_stack, Reached, TextNode, Stack, in_row, at_top, as_item, State, has, builds, step, levels, comma_at, finish, at_end, checked, forbids, parse, EndsPieces}
-use Rattle.cborn_edn.proofs.Reader.Going.{after_token}
+use Rattle.cborn_edn.proofs.Common.{arith, sym, ap, ◌∙◌, ℕ, List, length, Option, is_utf8-from_IsUtf8, IsUtf8, least, Absent, Profile, Token, MeaningError, unless, TextNotUtf8, first_error, Span, Item, Pieces, piece, text, string, node, faults, NoPieceAt, noted_stack, Reached, TextNode, Stack, as_item, has, builds, finish, at_end, parse, EndsPieces}
 use Rattle.cborn_edn.proofs.Reader.NextPieces.{next_ends}
-use Rattle.cborn_edn.proofs.Grammar.Takes.{ended_same}
 use Rattle.cborn_edn.proofs.Reader.Showing.{same_errors}
 
 finish_same : (st : Stack) (ps : Pieces) → finish (builds (as_item st) ps) ≡ finish (has st (string ps))

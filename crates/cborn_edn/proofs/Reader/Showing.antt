@@ -1,6 +1,6 @@
 -- What is shown, moved from one state of the machine to the next.
-use Rattle.std.specs.Prelude.{◌≡◌, ◌∷◌, ◌++◌, ◌&&◌, if◌then◌else◌}
-use Rattle.cborn_edn.proofs.Common.{arith, refl, sym, ap, ◌∙◌, subst, ℕ, List, [], length, Bool, true, false, Option, Some, None, append-nil, spelled_all, Mark, StringKind, OfBytes, OfText, is_nil, first_error, Span, Piece, text, bytes, embedded, Pieces, piece, also, str_of, str, nodes_in, faults_of_piece, Here, Writer, Joint, Speller, Holds, AllHanded, Reads, noted_stack, noted_home, pieces_noted, stack_of, level_of, count_of, brackets_of, brackets_home, arounds_of, arounds_home, bytes_around, bytes_around_home, piece_bytes, pieces_bytes, bytes_before, string_at, joint, Shows, piece_of, Home, as_item, as_chunk, State, at_home}
+use Rattle.std.specs.Prelude.{◌≡◌, ◌∷◌, ◌++◌, ◌&&◌}
+use Rattle.cborn_edn.proofs.Common.{arith, refl, sym, ap, ◌∙◌, subst, ℕ, List, [], length, Bool, true, Option, append-nil, Mark, StringKind, OfBytes, OfText, is_nil, first_error, Span, Piece, Pieces, piece, also, str_of, str, faults_of_piece, Here, Writer, Joint, Speller, Holds, AllHanded, noted_home, pieces_noted, stack_of, level_of, count_of, brackets_of, brackets_home, arounds_of, arounds_home, bytes_around, bytes_around_home, piece_bytes, pieces_bytes, bytes_before, string_at, joint, Shows, piece_of, Home, State, at_home}
 use Rattle.cborn_edn.specs.devices.Kept.{chunks_of}
 pub use Rattle.cborn_edn.proofs.Meaning.Earliest.{none_noted as same_errors}
 

@@ -1,6 +1,6 @@
 -- Frequent tokens, taken without the lexer: the reader goes on as the machine of tokens does.
-use Rattle.std.specs.Prelude.{◌≡◌, ◌+◌, ◌^◌, ◌<◌, ◌≤◌, ◌∷◌, ◌⊎◌, if◌then◌else◌}
-use Rattle.cborn_edn.proofs.Common.{has_number, sized_end, separator_of, opening, after_opening, phase_of, refl, sym, ap, ◌∙◌, subst, ℕ, zero, suc, List, [], length, Bool, true, false, Some, arith, inl, inr, lt-ltb, AreBytes, IsUtf8, TokensBetween, class_of, Kind, Class, Number, Text, Mark, Absent, Profile, Token, is_small, reach, Span, Item, Pieces, piece, string, StringsBefore, IsTokenAt, IsTextAt, NoPieceAt, Here, Writer, IsModest, AreModest, Holds, Reads, MayEnd, Taken, is_some, IsReadTo, Reached, text as piece_text, Stack, Home, as_item, as_chunk, State, wants, has, builds, wants_number, step_by, open_levels, comma_at, comma_in, forbids, few, between_modest, utf8_bytes}
+use Rattle.std.specs.Prelude.{◌≡◌, ◌^◌, ◌<◌, ◌≤◌, ◌∷◌, ◌⊎◌}
+use Rattle.cborn_edn.proofs.Common.{has_number, sized_end, separator_of, opening, after_opening, phase_of, refl, sym, ap, ◌∙◌, subst, ℕ, List, [], length, Bool, true, false, Some, arith, inl, inr, AreBytes, IsUtf8, TokensBetween, class_of, Kind, Class, Number, Text, Mark, Absent, Profile, Token, reach, Span, Item, Pieces, piece, string, StringsBefore, IsTokenAt, IsTextAt, NoPieceAt, Here, Writer, IsModest, AreModest, Holds, Reads, MayEnd, Taken, is_some, IsReadTo, Reached, text as piece_text, Stack, Home, as_item, as_chunk, State, wants, has, builds, wants_number, step_by, open_levels, comma_at, comma_in, forbids, few, between_modest, utf8_bytes}
 use Rattle.cborn_lex.proofs.WholeTexts.Progress.{inside}
 use Rattle.cborn_lex.specs.declared.classes.Kind.TheVariants as kinds
 use Rattle.cborn_edn.specs.declared.states.Phase.TheVariants as phases

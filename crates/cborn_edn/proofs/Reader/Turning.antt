@@ -1,8 +1,6 @@
 -- What one token does, by its kind.
 use Rattle.std.specs.Prelude.{◌≡◌, ◌<◌, ◌≤◌, ◌∷◌, ◌++◌, ◌⊎◌}
-use Rattle.cborn_edn.proofs.Common.{separator_of, true, false, refl, sym, ap, ◌∙◌, subst, ℕ, List, [], length, Bool, true, false, Option, Some, None, append-nil, arith, inl, inr, length-append, Kind, Mark, Class, class_of, content_of, top, no_part, OfBytes, OfText, IsWritten, Speller, Span, Item, Pieces, StringsBefore, string, simple, row, no_item, after_row, Content, loose, tight, pairs, after_pairs, at_home, Here, Writer, Phase, wanting, phase_of, bytes_around_home, bytes_before, stack_in, Shows, content_state, Holds, states_around, states_around_nest, states_around_home, Handed, AllHanded, IsSpelled, Reads, Ready, Turned, Taken, Takes, Turns, EndsPieces, is_some, is_piece, takes_no_piece, Stack, in_row, in_key, in_value, at_top, in_embed, Home, as_item, as_chunk, State, wants, has, builds, wants_chunk, wants_number, has_number, step_by}
-use Rattle.cborn_lex.specs.declared.classes.Kind.TheVariants as kinds
-use Rattle.cborn_lex.specs.declared.classes.Class.TheVariants as classes
+use Rattle.cborn_edn.proofs.Common.{separator_of, true, false, refl, sym, ap, ◌∙◌, subst, ℕ, List, [], length, Bool, true, false, Option, Some, None, append-nil, arith, inl, inr, length-append, Kind, Mark, Class, class_of, content_of, top, no_part, OfBytes, OfText, IsWritten, Speller, Span, Item, Pieces, StringsBefore, row, no_item, after_row, Content, loose, tight, pairs, after_pairs, at_home, Here, Writer, Phase, wanting, phase_of, stack_in, Shows, content_state, Holds, states_around, states_around_nest, states_around_home, Handed, AllHanded, IsSpelled, Reads, Ready, Turned, Taken, Takes, Turns, EndsPieces, is_some, is_piece, takes_no_piece, Stack, in_row, in_key, in_value, at_top, in_embed, Home, as_item, as_chunk, State, wants, has, builds, wants_chunk, wants_number, has_number, step_by}
 use Rattle.cborn_edn.specs.declared.states.Phase.TheVariants as phases
 use Rattle.cborn_edn.specs.devices.Kept.{chunks_of}
 use Rattle.cborn_edn.proofs.HandedOver.Handing.{stays}

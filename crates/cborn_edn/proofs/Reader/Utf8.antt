@@ -1,6 +1,6 @@
 -- What the content of a string stands for is UTF-8 if the text is.
-use Rattle.std.specs.Prelude.{◌≡◌, ◌+◌, ◌<◌, ◌≤◌, ◌^◌, ◌∷◌, ◌++◌, ◌&&◌, ◌||◌}
-use Rattle.cborn_edn.proofs.Common.{refl, sym, ap, ◌∙◌, subst, ℕ, zero, suc, List, [], length, take, drop, get_or, Bool, true, false, cond, ltb, leb, eqb, inl, inr, arith, and_parts, and_from, or_parts, or_from, cases_lt, cond_both, cond-true, cond-false, ltb-true, lt-ltb, le-ltb, le-leb, ne_eqb, false≢true, not-true, append_assoc, IsAscii, IsAscii-nil, IsAscii-cons, IsUtf8-append, IsUtf8-encode, IsUtf8-from_ascii, IsUtf8-take, IsUtf8-drop, IsCharBoundary-after_ascii, IsCharBoundary-before_ascii, encode_utf8_all, codes, list_all, list_any, flat_map, is_digit, digit_value, IsUtf8, is_escape, escape_code, are_hex, is_high, is_low as is_low_unit, Letter, raw, unit, written, meant, is_letter, length-append, after_slash as escaped, pair}
+use Rattle.std.specs.Prelude.{◌≡◌, ◌+◌, ◌<◌, ◌^◌, ◌∷◌, ◌++◌, ◌&&◌, ◌||◌}
+use Rattle.cborn_edn.proofs.Common.{sym, subst, ℕ, List, [], length, take, drop, get_or, Bool, true, false, cond, ltb, arith, and_parts, cond_both, ltb-true, not-true, append_assoc, IsAscii, IsAscii-nil, IsAscii-cons, IsUtf8-append, IsUtf8-encode, IsUtf8-from_ascii, IsUtf8-take, IsUtf8-drop, IsCharBoundary-after_ascii, IsCharBoundary-before_ascii, list_all, flat_map, is_digit, IsUtf8, is_escape, escape_code, are_hex, is_high, is_low as is_low_unit, Letter, raw, unit, written, meant, is_letter, after_slash as escaped, pair}
 use Rattle.cborn_lex.specs.Strings.{IsText, code, paired}
 use Rattle.cborn_lex.proofs.Contents.Texts.{has_letters}
 use lib.Utf8.{encode, scalar}

@@ -1,6 +1,6 @@
 -- The relation holds of the tokens of each tree within a limit.
 use Rattle.std.specs.Prelude.{◌≡◌, ◌+◌, ◌≤◌, ◌∷◌, ◌++◌}
-use Rattle.cborn_edn.proofs.Common.{refl, sym, ap, ◌∙◌, subst, ℕ, zero, suc, List, [], append_assoc, arith, Tree, Trees, Entries, Comma, Colon, Token, Profile, MeaningError, Span, token, Item, Piece, Pieces, Strings, Row, Content, Fields, Input, tokens_of, tokens_of_piece, tokens_of_pieces, tokens_of_strings, tokens_of_row, tokens_of_content, tokens_of_pairs, tokens_of_fields, tokens_of_input, depth, depth_of_piece, depth_of_pieces, depth_of_strings, depth_of_row, depth_of_content, depth_of_pairs, depth_of_fields, depth_of_input, AllowsCount, commas, commas_of_piece, commas_of_pieces, commas_of_strings, commas_of_row, commas_of_content, commas_of_pairs, commas_of_fields, commas_of_input, snoc, snoc_entry, node, str_of, str, kind_in, chunks, nodes, nodes_in, entries_in, faults, faults_of_piece, faults_of_pieces, faults_of_strings, faults_of_row, faults_in, faults_of_pairs, faults_of_fields, nodes_of_input, faults_of_input, IsItem, IsPiece, text_piece, byte_piece, ArePieces, AreChunks, first, next, AreItems, last, before, IsContent, empty, ArePairs, last_pair, pair_before, IsFields, no_fields, IsText, nothing, ProfileOne, ProfileTwo}
+use Rattle.cborn_edn.proofs.Common.{refl, sym, ap, ◌∙◌, subst, ℕ, zero, suc, List, [], append_assoc, arith, Tree, Trees, Entries, Comma, Colon, Token, Profile, MeaningError, Span, token, Item, Piece, Pieces, Strings, Row, Content, Fields, Input, tokens_of, tokens_of_piece, tokens_of_pieces, tokens_of_strings, tokens_of_row, tokens_of_content, tokens_of_pairs, tokens_of_fields, tokens_of_input, depth, depth_of_piece, depth_of_pieces, depth_of_strings, depth_of_row, depth_of_content, depth_of_pairs, depth_of_fields, depth_of_input, AllowsCount, commas, commas_of_piece, commas_of_pieces, commas_of_strings, commas_of_row, commas_of_content, commas_of_pairs, commas_of_fields, commas_of_input, snoc, snoc_entry, node, str_of, str, kind_in, chunks, nodes, nodes_in, entries_in, faults, faults_of_piece, faults_of_pieces, faults_of_strings, faults_of_row, faults_in, faults_of_pairs, faults_of_fields, nodes_of_input, faults_of_input, IsItem, IsPiece, text_piece, byte_piece, ArePieces, AreChunks, first, next, AreItems, last, before, IsContent, empty, ArePairs, last_pair, pair_before, IsFields, no_fields, IsText, nothing, ProfileTwo}
 use Rattle.cborn_edn.specs.devices.Syntax as tree
 use Rattle.cborn_edn.specs.devices.Syntax.{Pairs}
 use Rattle.cborn_edn.specs.devices.Said.{entries}

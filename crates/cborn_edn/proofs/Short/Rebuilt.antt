@@ -1,6 +1,6 @@
 -- Tokens that the relation takes are those of a tree within the limit, which says the same nodes and has the same meaning errors.
 use Rattle.std.specs.Prelude.{◌≡◌, ◌+◌, ◌≤◌, ◌∷◌, ◌++◌}
-use Rattle.cborn_edn.proofs.Common.{refl, sym, ap, ap₂, ◌∙◌, subst, ℕ, List, [], append_assoc, arith, false, Chunk, Tree, Items, Tagged, Trees, more, Entries, no_entry, entry, count, count_entries, spelled_all, Comma, Colon, ArrayOpen, ArrayClose, MapOpen, MapClose, EmbedOpen, EmbedClose, ChunkOpen, ParenClose, TagOpen, Mark, Token, Profile, MeaningError, StringKind, OfBytes, Span, token, Strings, RowBefore, PairsBefore, tokens_of, tokens_of_piece, tokens_of_pieces, tokens_of_strings, tokens_of_row, tokens_of_row_before, tokens_of_content, tokens_of_pairs, tokens_of_pairs_before, tokens_of_fields, tokens_of_input, depth, depth_of_piece, depth_of_pieces, depth_of_strings, depth_of_row, depth_of_row_before, depth_of_content, depth_of_pairs, depth_of_pairs_before, depth_of_fields, depth_of_input, AllowsCount, commas, commas_of_piece, commas_of_pieces, commas_of_strings, commas_of_row, commas_of_row_before, commas_of_content, commas_of_pairs, commas_of_pairs_before, commas_of_fields, commas_of_input, snoc, snoc_entry, node, str_of, str, kind_in, chunks, nodes, nodes_before, nodes_in, entries_before, entries_in, faults, faults_of_piece, faults_of_pieces, faults_of_strings, faults_of_row, faults_before, faults_in, faults_of_pairs, faults_before_pairs, faults_of_fields, nodes_of_input, faults_of_input, chunked_node, tag_errors, size_errors, width, size, Str, is_nil, joined, said_string, chunk, piece_errors, string_errors, chunk_errors, IsItem, IsPiece, text_piece, byte_piece, ArePieces, AreChunks, first, next, AreItems, last, before, IsContent, empty, ArePairs, last_pair, pair_before, IsFields, no_fields, IsText, nothing, Pairs as PairNode, no_node, ProfileOne, ProfileTwo, HasTree, Input, Parse, Parsed}
+use Rattle.cborn_edn.proofs.Common.{refl, sym, ap, ap₂, ◌∙◌, subst, ℕ, List, [], append_assoc, arith, false, Chunk, Tree, Items, Tagged, Trees, more, Entries, no_entry, entry, count, count_entries, spelled_all, Comma, Colon, ArrayOpen, ArrayClose, MapOpen, MapClose, EmbedOpen, EmbedClose, ChunkOpen, ParenClose, TagOpen, Mark, Token, Profile, MeaningError, StringKind, OfBytes, Span, token, Strings, RowBefore, PairsBefore, tokens_of, tokens_of_piece, tokens_of_pieces, tokens_of_strings, tokens_of_row, tokens_of_row_before, tokens_of_content, tokens_of_pairs, tokens_of_pairs_before, tokens_of_fields, tokens_of_input, depth, depth_of_piece, depth_of_pieces, depth_of_strings, depth_of_row, depth_of_row_before, depth_of_content, depth_of_pairs, depth_of_pairs_before, depth_of_fields, depth_of_input, AllowsCount, commas, commas_of_piece, commas_of_pieces, commas_of_strings, commas_of_row, commas_of_row_before, commas_of_content, commas_of_pairs, commas_of_pairs_before, commas_of_fields, commas_of_input, snoc, snoc_entry, node, str_of, str, kind_in, chunks, nodes, nodes_before, nodes_in, entries_before, entries_in, faults, faults_of_piece, faults_of_pieces, faults_of_strings, faults_of_row, faults_before, faults_in, faults_of_pairs, faults_before_pairs, faults_of_fields, nodes_of_input, faults_of_input, chunked_node, tag_errors, size_errors, width, size, Str, is_nil, joined, said_string, chunk, piece_errors, string_errors, chunk_errors, IsItem, IsPiece, text_piece, byte_piece, ArePieces, AreChunks, first, next, AreItems, last, before, IsContent, empty, ArePairs, last_pair, pair_before, IsFields, no_fields, IsText, nothing, Pairs as PairNode, no_node, ProfileTwo, HasTree, Input, Parse, Parsed}
 use Rattle.cborn_edn.specs.devices.Syntax as tree
 use Rattle.cborn_edn.specs.devices.Syntax.{Pairs}
 use Rattle.cborn_edn.specs.devices.Said.{entries}

@@ -1,7 +1,7 @@
 -- The text of the fixed notation is UTF-8.
 use Rattle.std.specs.Prelude.{◌≡◌, ◌+◌, ◌^◌, ◌<◌, ◌≤◌, ◌∷◌, ◌++◌, ◌&&◌}
 use Rattle.hex.specs.Hex.{encode_with}
-use Rattle.cborn_edn.proofs.Common.{same_head, refl, sym, ap, ◌∙◌, subst, append_assoc, ℕ, zero, suc, List, [], map, length, get_or, take, Bool, true, false, ltb, eqb, cond, inl, inr, decimal, append-nil, arith, and_parts, cond-false, le-ltb, ltb-true, ne_eqb, cases_lt, take_more, take_all, length-append, IsUtf8-append, IsUtf8-nil, IsUtf8-encode, IsUtf8-past_char, length-encode, len_utf8_bounds, IsUtf8-from_ascii, IsUtf8-from_is_utf8, is_utf8-from_IsUtf8, inside_one, encode_ascii, IsAscii-nil, IsAscii-cons, IsAscii-decimal_wide, flat_map-append, codes, encode_utf8, encode_utf8_all, list_all, flat_map, IsUtf8, IsAscii, is_utf8, all_scalars, IsScalar, lower_digits, Width, Direct, Chunk, Tree, Uint, Nint, ByteChunks, TextChunks, Items, Tagged, Simple, Trees, more, trees, Entries, no_entry, entry, count, count_entries, Fits, FitsAll, FitsEntries, Mark, Wide, StringKind, OfBytes, OfText, is_good, others, mark_for, mark_for_size, escaped, indicator, opened, shown_string, shown_chunk, joined_by, shown_chunks, shown_simple, shown, item_texts, pair_texts, shown_lines, Shown, AreTexts, IsShowable, EachShowable, ArePairsShowable, ByteNode, TextNode, Pairs as PairNode, no_node, IsAscii-encode_with, simple_below, passes, passes_at}
+use Rattle.cborn_edn.proofs.Common.{refl, sym, ap, subst, append_assoc, ℕ, suc, List, [], map, length, get_or, take, Bool, true, false, ltb, eqb, cond, inl, inr, decimal, arith, and_parts, ltb-true, cases_lt, take_more, take_all, IsUtf8-append, IsUtf8-nil, IsUtf8-from_ascii, IsUtf8-from_is_utf8, is_utf8-from_IsUtf8, IsAscii-nil, IsAscii-cons, IsAscii-decimal_wide, codes, flat_map, IsUtf8, IsAscii, is_utf8, lower_digits, Width, Chunk, Tree, Uint, Nint, ByteChunks, TextChunks, Items, Tagged, Simple, Trees, more, trees, Entries, no_entry, entry, count, count_entries, Fits, FitsAll, FitsEntries, Mark, StringKind, OfBytes, OfText, is_good, others, mark_for, mark_for_size, escaped, indicator, opened, shown_string, shown_chunk, joined_by, shown_chunks, shown_simple, shown, item_texts, pair_texts, shown_lines, Shown, AreTexts, IsShowable, EachShowable, ArePairsShowable, ByteNode, TextNode, Pairs as PairNode, no_node, IsAscii-encode_with, simple_below, passes, passes_at}
 use Rattle.cborn_edn.proofs.Reader.Utf8.{is_low, low_ascii, exchanged}
 use Rattle.cborn_edn.proofs.RoundTrip.Back.{below}
 use Rattle.cborn_edn.proofs.HandedOver.Fitting.{fits_last}
@@ -11,7 +11,7 @@ use Rattle.cborn_edn.proofs.Shown.Lowests.{utf8_is}
 
 each_low : passes (λ b. ltb 0 (length (escaped b)) && is_low (escaped b)) 0 128 ≡ true
 unfolding encode_with
-each_low  = grind arith
+each_low = grind arith
 
 escaped_low : (b : ℕ) → b < 128 → IsAscii (escaped b) × (0 < length (escaped b))
 escaped_low b h1 = grind (arith, and_parts, each_low, low_ascii, ltb-true, passes_at)

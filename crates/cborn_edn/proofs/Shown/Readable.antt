@@ -1,6 +1,6 @@
 -- Where the fixed notation is UTF-8, each text that it shows is.
 use Rattle.std.specs.Prelude.{◌≡◌, ◌↔◌, ◌<◌, ◌∷◌, ◌++◌}
-use Rattle.cborn_edn.proofs.Common.{sym, subst, ℕ, List, [], map, length, true, decimal, append-nil, append_assoc, refl, inl, inr, arith, cases_lt, IsUtf8-append, IsUtf8-from_ascii, is_utf8-from_IsUtf8, IsAscii-nil, IsAscii-cons, IsAscii-decimal_wide, codes, flat_map, IsUtf8, IsAscii, is_utf8, Chunk, Width, Tree, TextChunks, Items, Tagged, Trees, more, Entries, no_entry, entry, count, count_entries, Fits, FitsAll, FitsEntries, OfText, AreShowable, Shown, mark_for, mark_for_size, escaped, indicator, opened, shown_string, shown_chunk, joined_by, shown, item_texts, pair_texts, shown_lines, others, AreTexts, IsShowable, EachShowable, ArePairsShowable, TextNode, Pairs as PairNode, no_node}
+use Rattle.cborn_edn.proofs.Common.{subst, ℕ, List, [], map, length, true, decimal, append-nil, append_assoc, refl, arith, is_utf8-from_IsUtf8, IsAscii-decimal_wide, codes, flat_map, IsUtf8, IsAscii, is_utf8, Chunk, Width, Tree, TextChunks, Items, Tagged, Trees, more, Entries, no_entry, entry, count, count_entries, Fits, FitsAll, FitsEntries, OfText, AreShowable, Shown, mark_for, mark_for_size, escaped, indicator, opened, shown_string, shown_chunk, joined_by, shown, item_texts, pair_texts, shown_lines, others, AreTexts, IsShowable, EachShowable, ArePairsShowable, TextNode, Pairs as PairNode, no_node}
 use Rattle.simdutf8.proofs.StepsLemmas.{IsUtf8-append_ascii, IsUtf8-after_ascii}
 use Rattle.cborn_edn.proofs.RoundTrip.Back.{below}
 use Rattle.cborn_edn.proofs.Shown.Lowests.{are_showable, each_showable}

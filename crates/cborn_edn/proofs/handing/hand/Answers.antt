@@ -1,6 +1,5 @@
-use Rattle.std.specs.Prelude.{◌≡◌}
-use Rattle.cborn_edn.proofs.Common.{sym, ap, ◌∙◌, true, false, arith, first_error, is_none, are_bytes}
-use Rattle.cborn_edn.proofs.Lemmas.{on_ok, silenced, outside, inside}
+use Rattle.cborn_edn.proofs.Common.{sym, arith, are_bytes}
+use Rattle.cborn_edn.proofs.Lemmas.{on_ok, outside, inside}
 use Rattle.cborn_edn.proofs.handing.hand.Goals as goal
 
 pub returns-then-is_empty : goal.returns-then-is_empty

@@ -1,5 +1,5 @@
-use Rattle.std.specs.Prelude.{◌≡◌, ◌++◌, ◌^◌}
-use Rattle.cborn_edn.proofs.Common.{refl, ap, ◌∙◌, true, false, arith, lt-ltb, le-ltb, is_small, argument_of, number_errors, first_error, number, noted_stack, states_around, wants, has}
+use Rattle.std.specs.Prelude.{◌≡◌, ◌^◌}
+use Rattle.cborn_edn.proofs.Common.{true, arith, lt-ltb, le-ltb, is_small, argument_of}
 use Rattle.cborn_edn.proofs.Lemmas.{number_fits, hands_integer, hands_bignum, leaf_shown, on_ok, all_ok}
 use Rattle.cborn_edn.proofs.numbers.put_number.Goals as goal
 

@@ -1,6 +1,5 @@
-use Rattle.std.specs.Prelude.{◌≡◌}
-use Rattle.cborn_edn.proofs.Common.{refl, sym, ap, ◌∙◌, true, false, arith, first_error, is_none, states_around, wants_number, has_number, put, front_of, Simple}
-use Rattle.cborn_edn.proofs.Lemmas.{no_left, simple_fits, silenced, free, leaf_shown, simple_noted, on_ok}
+use Rattle.cborn_edn.proofs.Common.{sym, arith}
+use Rattle.cborn_edn.proofs.Lemmas.{simple_fits}
 use Rattle.cborn_edn.proofs.numbers.put_simple.Goals as goal
 
 pub overflow_cast-event : goal.overflow_cast-event

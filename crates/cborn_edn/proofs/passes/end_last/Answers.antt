@@ -1,4 +1,4 @@
-use Rattle.cborn_edn.proofs.Common.{arith, sym, ap, ◌∙◌, subst, Input, string, Reads, AtEnd, in_row, at_top, State}
+use Rattle.cborn_edn.proofs.Common.{sym, ap, ◌∙◌, subst, Input, string, Reads, AtEnd, in_row, at_top, State}
 use Rattle.cborn_edn.specs.devices.Reading.{ends_string}
 use Rattle.cborn_edn.proofs.Lemmas.{on_ok, string_end, item_end, bare_end}
 use Rattle.cborn_edn.proofs.passes.end_last.Goals as goal

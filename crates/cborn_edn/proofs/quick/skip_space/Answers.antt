@@ -1,7 +1,4 @@
-use Rattle.std.specs.Prelude.{◌<◌}
-use Rattle.cborn_edn.proofs.Common.{arith, ◌∙◌, ap, sym, subst, ℕ, List, length, get_or, is_white}
 use Rattle.cborn_lex.specs.Good as good
-use Rattle.cborn_edn.proofs.Reader.CommonTokens.{white_here}
 use Rattle.cborn_edn.proofs.quick.skip_space.Goals as goal
 
 pub returns-else-has_byte_at-clause-white : goal.returns-else-has_byte_at-clause-white

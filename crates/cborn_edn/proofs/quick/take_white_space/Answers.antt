@@ -1,6 +1,5 @@
-use Rattle.std.specs.Prelude.{◌+◌}
-use Rattle.cborn_edn.proofs.Common.{sym, ap, ◌∙◌, subst, ℕ, List, [], get_or, arith, TokensBetween, is_white}
-use Rattle.cborn_edn.proofs.Lemmas.{white_here, skipped}
+use Rattle.cborn_edn.proofs.Common.{subst, ℕ, List, [], arith, TokensBetween}
+use Rattle.cborn_edn.proofs.Lemmas.{skipped}
 use Rattle.cborn_edn.proofs.quick.take_white_space.Goals as goal
 
 pub returns : goal.returns

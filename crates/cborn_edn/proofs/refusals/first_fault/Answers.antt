@@ -1,5 +1,5 @@
 use Rattle.std.specs.Prelude.{◌∷◌, ◌++◌, ◌≡◌}
-use Rattle.cborn_edn.proofs.Common.{List, [], inl, inr, refl, arith, Token, joins, few, stops, subst, ℕ, length, Option, Some, None, TokensBetween, IsNextBareToken, BareToken, Class, Profile}
+use Rattle.cborn_edn.proofs.Common.{List, [], inl, refl, arith, joins, few, stops, subst, ℕ, length, Option, Some, None, TokensBetween, IsNextBareToken, BareToken, Class, Profile}
 use Rattle.cborn_lex.proofs.WholeTexts.Progress.{nothing, inside}
 use Rattle.cborn_edn.proofs.refusals.first_fault.Goals as goal
 

@@ -1,6 +1,6 @@
 use Rattle.std.specs.Prelude.{◌++◌, ◌∷◌}
-use Rattle.cborn_edn.proofs.Common.{[], sym, ap, ◌∙◌, subst, take, arith, IsUtf8, take_more, take_all, top, no_part, IsHeld}
-use Rattle.cborn_edn.proofs.Lemmas.{error_is, fits_more, fits_whole}
+use Rattle.cborn_edn.proofs.Common.{[], sym, ap, ◌∙◌, subst, take, arith, take_more, top, no_part, IsHeld}
+use Rattle.cborn_edn.proofs.Lemmas.{fits_more}
 use Rattle.cborn_edn.proofs.showing.show.Goals as goal
 
 pub loop-item-preserved : goal.loop-item-preserved

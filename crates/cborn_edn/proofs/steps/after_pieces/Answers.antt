@@ -1,4 +1,4 @@
-use Rattle.cborn_edn.proofs.Common.{arith, refl, not, sym, ap, ◌∙◌, subst, true, Kind, class_of, string, strings, after_strings, chunked, Reads, Taken, is_some, Home, builds, as_item, as_chunk, wants_chunk, has}
+use Rattle.cborn_edn.proofs.Common.{refl, not, sym, ap, ◌∙◌, subst, true, Kind, class_of, string, strings, after_strings, chunked, Reads, Taken, is_some, Home, builds, as_item, as_chunk, wants_chunk, has}
 use Rattle.cborn_lex.specs.declared.classes.Kind.TheVariants as kinds
 use Rattle.cborn_edn.proofs.Lemmas.{if_ok, item_home, chunk_home, taken_as, taken_same, ended_same}
 use Rattle.cborn_edn.proofs.steps.after_pieces.Goals as goal

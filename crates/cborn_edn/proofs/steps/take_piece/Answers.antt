@@ -1,8 +1,7 @@
-use Rattle.std.specs.Prelude.{◌≡◌}
-use Rattle.cborn_edn.proofs.Common.{arith, [], refl, sym, ap, ◌∙◌, subst, true, None, Class, text, bytes, no_item, takes_no_piece, in_row, in_embed, wants, builds, with_piece, step_by, at_home}
+use Rattle.cborn_edn.proofs.Common.{[], refl, sym, ◌∙◌, true, text, bytes, no_item, in_row, in_embed, wants, builds, with_piece, at_home}
 use Rattle.cborn_lex.specs.declared.classes.Kind.TheVariants as kinds
 use Rattle.cborn_edn.proofs.Grammar.Takes.{text_piece, bytes_piece, embed_opens}
-use Rattle.cborn_edn.proofs.Lemmas.{arm, appends_nothing, adding, not_text, embed_taken, start_inside, no_piece_taken, piece_handed}
+use Rattle.cborn_edn.proofs.Lemmas.{arm, appends_nothing, adding, not_text, embed_taken, start_inside, piece_handed}
 use Rattle.cborn_edn.proofs.steps.take_piece.Goals as goal
 
 pub add_piece-requires : goal.add_piece-requires

@@ -1,4 +1,4 @@
-use Rattle.cborn_edn.proofs.Common.{arith, []}
+use Rattle.cborn_edn.proofs.Common.{arith}
 use Rattle.cborn_edn.proofs.Reader.CommonTokens.{nothing, join}
 use Rattle.cborn_edn.proofs.white_space.skip_white_space.Goals as goal
 

@@ -1,5 +1,4 @@
-use Rattle.std.specs.Prelude.{◌+◌}
-use Rattle.cborn_edn.proofs.Common.{◌∙◌, refl, drop, arith, length-drop, get_or-drop}
+use Rattle.cborn_edn.proofs.Common.{arith, length-drop, get_or-drop}
 use Rattle.cborn_edn.proofs.Reader.CommonTokens.{comment_here}
 use Rattle.cborn_edn.proofs.white_space.slashed_end.Goals as goal
 

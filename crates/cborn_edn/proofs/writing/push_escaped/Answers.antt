@@ -1,4 +1,4 @@
-use Rattle.cborn_edn.proofs.Common.{arith, sym, ◌∙◌}
+use Rattle.cborn_edn.proofs.Common.{arith}
 use Rattle.cborn_edn.proofs.Shown.Escapes.{run_on, escape_on}
 use Rattle.cborn_edn.proofs.writing.push_escaped.Goals.{then-is_escaped+in_ok-extend_from_slice+in_ok-push_escape, else-is_escaped}
 use Rattle.cborn_edn.proofs.writing.push_escaped.Goals as goal

@@ -1,6 +1,5 @@
-use Rattle.std.specs.Prelude.{◌++◌}
-use Rattle.cborn_edn.proofs.Common.{arith, refl, sym, ap, ◌∙◌, subst, append-nil, in_chunks, separator, IsCounted}
-use Rattle.cborn_edn.proofs.Notating.{noted, entered_held}
+use Rattle.cborn_edn.proofs.Common.{arith, append-nil}
+use Rattle.cborn_edn.proofs.Notating.{entered_held}
 use Rattle.cborn_edn.proofs.notators.NotatorVisitor.open_chunks.Goals.{then-is_none+in_ok-begin, else-is_none}
 use Rattle.cborn_edn.proofs.notators.NotatorVisitor.open_chunks.Goals as goal
 
