@@ -1,6 +1,6 @@
 -- What fails for a reason by Bad.antt reads as bad for it by Forms.antt.
-use Rattle.std.specs.Prelude.{◌≡◌, ◌<◌, ◌≤◌, ◌^◌, ◌∷◌, ◌++◌, ◌&&◌, ◌||◌, ◌⊎◌}
-use Rattle.cborn_lex.proofs.Common.{refl, sym, ap, ◌∙◌, subst, ℕ, List, [], Bool, true, false, cond, eqb, ltb, inl, inr, Some, None, Result, Ok, Err, append-nil, arith, eqb-true, and_parts, or_parts, or_from, false_from_ne_true, leb-true, ltb-true, append_cancel_right, list_all, list_any, is_ascii_digit, is_ascii_alphabetic, is_ascii_alphanumeric, is_in_range, bytes_eq, codes, nat_le, Profile, Mark, Absent, Endless, Wide, LexReason, UnexpectedCharacter, UnclosedString, BadEscape, BadHex, BadBase64, UnknownPrefix, BadIndicator, BadNumber, NumberTooLarge, FloatLeftOut, Class, ArrayOpen, MapOpen, EmbedClose, Text, Bytes, Bad, is_white, is_word, is_numeral, is_not, begins, mark_of, marked, within, integer, number_front, word_front, is_content, is_unclosed, IsText, IsRun, IsIndicator, unknown, prefix_of, IsPrefixed, hash, digit, letter, other, start_of, ReadsFrom, Reads, IsLiteral, IsName, IsCoded, Takes, is_quote, is_start, IsWord, is_float_word, IsPrefix, IsNoInteger, Fails}
+use Rattle.std.specs.Prelude.{◌≡◌, ◌<◌, ◌≤◌, ◌^◌, ◌∷◌, ◌++◌, ◌&&◌, ◌⊎◌}
+use Rattle.cborn_lex.proofs.Common.{refl, sym, ap, ◌∙◌, subst, ℕ, List, [], Bool, true, false, cond, eqb, ltb, inl, inr, Some, None, Result, Ok, Err, append-nil, arith, eqb-true, and_parts, or_parts, or_from, false_from_ne_true, leb-true, ltb-true, append_cancel_right, list_all, is_ascii_digit, is_ascii_alphabetic, is_in_range, bytes_eq, codes, nat_le, Profile, Mark, Absent, Endless, Wide, LexReason, UnexpectedCharacter, UnclosedString, BadEscape, BadHex, BadBase64, UnknownPrefix, BadIndicator, BadNumber, NumberTooLarge, FloatLeftOut, Class, ArrayOpen, MapOpen, EmbedClose, Text, Bytes, Bad, is_word, is_numeral, is_not, begins, mark_of, marked, within, integer, number_front, word_front, is_content, is_unclosed, IsText, IsRun, IsIndicator, unknown, prefix_of, IsPrefixed, hash, digit, letter, other, start_of, ReadsFrom, Reads, IsLiteral, IsName, IsCoded, Takes, is_quote, is_start, IsWord, is_float_word, IsPrefix, IsNoInteger, Fails}
 use Rattle.cborn_model.specs.declared.heads.Width.TheVariants as width
 use Rattle.cborn_lex.specs.Good as good
 use Rattle.cborn_lex.specs.Bad as bad

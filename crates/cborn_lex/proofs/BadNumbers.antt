@@ -1,6 +1,6 @@
 -- A number that is a float is read as one.
-use Rattle.std.specs.Prelude.{◌≡◌, ◌^◌, ◌∷◌, ◌||◌}
-use Rattle.cborn_lex.proofs.Common.{arith, refl, sym, subst, ℕ, List, [], Bool, true, false, not, cond, eqb, ltb, ⊎_elim, Ok, Err, eqb-true, and_parts, and_left, and_right, not-true, list_all, list_any, is_digit, bytes_eq, codes, BadNumber, NumberTooLarge, FloatLeftOut, begins, are_digits, within, has_prefix, has_any, integer, IsFloat, drop, take}
+use Rattle.std.specs.Prelude.{◌≡◌, ◌∷◌, ◌||◌}
+use Rattle.cborn_lex.proofs.Common.{arith, refl, sym, subst, ℕ, List, [], Bool, true, false, not, eqb, ⊎_elim, Err, eqb-true, and_parts, and_left, and_right, not-true, list_all, list_any, is_digit, bytes_eq, codes, BadNumber, FloatLeftOut, begins, are_digits, within, has_prefix, has_any, integer, IsFloat, drop, take}
 use Rattle.cborn_lex.specs.Bad as bad
 use Rattle.cborn_lex.proofs.GoodBack.{or_cases, never}
 

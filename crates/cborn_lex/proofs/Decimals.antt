@@ -1,6 +1,6 @@
 -- Decimal integers at the front of a text.
 use Rattle.std.specs.Prelude.{◌≡◌, ◌+◌, ◌-◌, ◌*◌, ◌<◌, ◌≤◌, ◌^◌, ◌∷◌, ◌++◌, ◌||◌, ◌⊎◌}
-use Rattle.cborn_lex.proofs.Common.{refl, sym, ap, ◌∙◌, subst, ℕ, zero, suc, List, [], length, take, drop, get_or, ne_eqb, Bool, true, false, not, eqb, Ok, inl, inr, arith, append_assoc, pow-suc, and_parts, and_from, cond-true, cond-false, lt-ltb, ltb-true, eqb-true, cases_Bool, cases_lt, false≢true, take_more, drop_more, take-append-drop, list_all-append, digit_value_digit, false_from_ne_true, leb-true, is_ascii_alphabetic, is_in_range, nat_le, list_all, is_digit, digit_value, codes, bytes_eq, is_numeral, begins, number, within, integer, has_prefix, are_digits, BeginsDecimal, Front, mark_of, number_front, IsRun, IsNumber, ReadsNumber}
+use Rattle.cborn_lex.proofs.Common.{refl, sym, ap, ◌∙◌, subst, ℕ, zero, suc, List, [], length, take, drop, get_or, ne_eqb, Bool, true, false, not, eqb, Ok, inl, inr, arith, append_assoc, pow-suc, and_parts, and_from, cond-true, lt-ltb, ltb-true, eqb-true, cases_Bool, cases_lt, false≢true, take_more, drop_more, take-append-drop, list_all-append, digit_value_digit, is_ascii_alphabetic, list_all, is_digit, digit_value, codes, bytes_eq, is_numeral, begins, number, within, integer, has_prefix, are_digits, BeginsDecimal, Front, mark_of, number_front, IsRun, IsNumber, ReadsNumber}
 use Rattle.std.proofs.lemmas.Str.Parse.{digit_from_value}
 use Rattle.cborn_lex.proofs.TwoParts.{passes, passes_at}
 

@@ -1,6 +1,6 @@
 -- What Good.antt takes as white space, a comment or a token reads as that by Forms.antt.
-use Rattle.std.specs.Prelude.{◌≡◌, ◌-◌, ◌<◌, ◌≤◌, ◌^◌, ◌∷◌, ◌++◌, ◌&&◌, ◌||◌, ◌⊎◌}
-use Rattle.cborn_lex.proofs.Common.{refl, sym, ap, ◌∙◌, subst, ℕ, List, [], Bool, true, false, cond, eqb, ltb, inl, inr, Option, Some, None, Ok, append-nil, arith, eqb-true, and_parts, or_parts, ltb-true, ltb-false, lt-ltb, list_all, is_digit, codes, Profile, Two, Mark, Class, ArrayOpen, MapOpen, EmbedClose, Text, Bytes, TagOpen, Word, Front, WhiteSpace, Read, is_white, is_word, is_numeral, is_not, begins, mark_of, marked, are_digits, number, within, has_prefix, integer, signed, number_front, white, hash, digit, start_of, ReadsFrom, Reads, IsMark, IsLiteral, IsNumeral, IsName, IsCoded, Takes, drop}
+use Rattle.std.specs.Prelude.{◌≡◌, ◌<◌, ◌≤◌, ◌^◌, ◌∷◌, ◌++◌, ◌&&◌, ◌||◌, ◌⊎◌}
+use Rattle.cborn_lex.proofs.Common.{refl, sym, ap, ◌∙◌, subst, ℕ, List, [], Bool, true, false, eqb, inl, inr, Option, Some, None, Ok, append-nil, arith, eqb-true, and_parts, or_parts, lt-ltb, list_all, is_digit, codes, Profile, Two, Mark, Class, ArrayOpen, MapOpen, EmbedClose, Text, Bytes, TagOpen, Word, Front, WhiteSpace, Read, is_white, is_word, is_numeral, is_not, begins, mark_of, marked, are_digits, number, within, has_prefix, integer, signed, number_front, white, hash, digit, start_of, ReadsFrom, Reads, IsMark, IsLiteral, IsNumeral, IsName, IsCoded, Takes, drop}
 use Rattle.cborn_lex.specs.Good as good
 use Rattle.cborn_lex.proofs.TwoParts.{digit_starts}
 

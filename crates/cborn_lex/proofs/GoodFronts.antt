@@ -1,6 +1,6 @@
 -- What reads by Forms.antt as white space, a comment or a token is taken as that by Good.antt, and what reads as bad fails for that reason by Bad.antt.
 use Rattle.std.specs.Prelude.{◌≡◌, ◌<◌, ◌^◌, ◌∷◌, ◌++◌, ◌&&◌, ◌||◌}
-use Rattle.cborn_lex.proofs.Common.{arith, refl, sym, ap, ◌∙◌, subst, ℕ, List, [], Bool, true, false, not, cond, eqb, ltb, inl, inr, Option, Some, None, Result, Ok, Err, append-nil, append_assoc, eqb-true, and_parts, and_from, or_parts, or_from, ltb-true, ltb-false, list_all, list_any, is_ascii_digit, is_ascii_alphabetic, is_ascii_alphanumeric, is_in_range, bytes_eq, codes, Profile, One, Two, Eight, Mark, Wide, LexReason, UnexpectedCharacter, UnclosedString, UnclosedComment, BadEscape, BadHex, BadBase64, UnknownPrefix, BadIndicator, BadNumber, NumberTooLarge, FloatLeftOut, Class, ArrayOpen, MapOpen, EmbedClose, ArrayClose, MapClose, ParenClose, Comma, Colon, EmbedOpen, ChunkOpen, SimpleOpen, Text, Bytes, TagOpen, Word, Front, WhiteSpace, Read, Bad, is_white, is_word, is_numeral, is_not, begins, mark_of, marked, are_digits, number, within, has_prefix, has_any, integer, signed, number_front, word_front, is_content, is_unclosed, IsText, IsHex, IsBase64, IsRun, IsIndicator, IsString, hexadecimal, base64, unknown, prefix_of, IsPrefixed, IsAfterWord, IsTag, Start, white, slash, hash, less, greater, paren, double, simple, letter, minus, digit, other, single, opening, ReadsFrom, Reads, IsMark, IsLiteral, IsNumeral, IsName, IsCoded, Takes, is_start, IsWord, IsPrefix, IsNoInteger, Fails, drop}
+use Rattle.cborn_lex.proofs.Common.{arith, refl, sym, ap, ◌∙◌, subst, ℕ, List, [], Bool, true, false, not, cond, eqb, ltb, inl, inr, Option, Some, None, Result, Ok, Err, append-nil, append_assoc, eqb-true, and_parts, and_from, or_parts, ltb-true, ltb-false, list_all, is_ascii_digit, is_ascii_alphabetic, is_in_range, bytes_eq, codes, Profile, One, Two, Eight, Mark, Wide, LexReason, UnexpectedCharacter, UnclosedString, UnclosedComment, BadEscape, BadHex, BadBase64, UnknownPrefix, BadIndicator, BadNumber, NumberTooLarge, FloatLeftOut, Class, ArrayOpen, MapOpen, EmbedClose, ArrayClose, MapClose, ParenClose, Comma, Colon, EmbedOpen, ChunkOpen, SimpleOpen, Text, Bytes, TagOpen, Word, Front, WhiteSpace, Read, Bad, is_white, is_word, is_numeral, is_not, begins, mark_of, marked, are_digits, number, within, has_prefix, has_any, integer, signed, number_front, word_front, is_content, is_unclosed, IsText, IsHex, IsBase64, IsRun, IsIndicator, IsString, hexadecimal, base64, unknown, prefix_of, IsPrefixed, IsAfterWord, IsTag, Start, white, slash, hash, less, greater, paren, double, simple, letter, minus, digit, other, single, opening, ReadsFrom, Reads, IsMark, IsLiteral, IsNumeral, IsName, IsCoded, Takes, is_start, IsWord, IsPrefix, IsNoInteger, Fails, drop}
 use Rattle.std.proofs.lemmas.Slice.Eq.{bytes_eq-Decides}
 use Rattle.cborn_lex.specs.Good as good
 use Rattle.cborn_lex.specs.Bad as bad

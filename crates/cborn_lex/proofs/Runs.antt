@@ -1,6 +1,6 @@
 -- Letters between quotes: runs of plain ones, and escapes.
 use Rattle.std.specs.Prelude.{◌≡◌, ◌+◌, ◌-◌, ◌*◌, ◌/◌, ◌<◌, ◌≤◌, ◌^◌, ◌%◌, ◌∷◌, ◌++◌, ◌&&◌, ◌||◌, ◌⊎◌}
-use Rattle.cborn_lex.proofs.Common.{refl, sym, ap, ap₂, ◌∙◌, subst, ℕ, zero, suc, List, [], length, take, drop, get_or, map, replicate, Bool, true, false, not, cond, eqb, leb, ltb, inl, inr, Option, Some, None, arith, append-nil, append_assoc, and_parts, and_from, or_cases, eq-eqb, eqb-true, ne_eqb, cond-true, cond-false, not-true, false≢true, lt-ltb, le-leb, cases_lt, take-take, length-take, length-map, drop_more, take-append-drop, length-append, length-drop, drop-map, drop-drop, take_rest, zero-div, list_all-append, take-add, take-nil, list_all, flat_map, prefix_len, is_digit, zip2, mask_l, top, is_content, is_unclosed, is_escape, escape_code, four, are_hex, code, is_high, is_low, Letter, raw, escaped, unit, pair, written, meant, is_letter, is_plain, is_not, is_special, LettersSoFar, LettersTaken, NoText, is_raw, escape_of, code_at, low_code, paired, unit_from, encode_utf8}
+use Rattle.cborn_lex.proofs.Common.{refl, sym, ap, ap₂, ◌∙◌, subst, ℕ, zero, suc, List, [], length, take, drop, get_or, map, replicate, Bool, true, false, not, cond, eqb, leb, ltb, inl, inr, Option, Some, None, arith, append-nil, append_assoc, and_parts, and_from, or_cases, eq-eqb, eqb-true, ne_eqb, cond-true, cond-false, not-true, false≢true, lt-ltb, le-leb, cases_lt, take-take, length-take, length-map, drop_more, take-append-drop, length-append, length-drop, drop-map, drop-drop, take_rest, zero-div, list_all-append, take-add, take-nil, list_all, flat_map, prefix_len, is_digit, zip2, mask_l, top, is_content, is_unclosed, is_escape, escape_code, four, are_hex, code, is_high, is_low, Letter, raw, escaped, unit, pair, written, meant, is_letter, is_plain, is_not, is_special, LettersSoFar, LettersTaken, NoText, is_raw, escape_of, code_at, unit_from, encode_utf8}
 use Rattle.std.proofs.lemmas.Bool.Decides.{leb_tells}
 use Rattle.std.proofs.lemmas.List.Sums.{prefix_len-le-length}
 use Rattle.std.proofs.lemmas.Nat.{shr-shr, shr_high}

@@ -1,10 +1,8 @@
 -- Fronts in two parts: a kind, and the number or the content that goes with it.
 use Rattle.std.specs.Prelude.{◌≡◌, ◌&&◌, ◌<◌, ◌≤◌, ◌∷◌, ◌++◌, ◌+◌}
-use Rattle.cborn_lex.proofs.Common.{refl, sym, ap, ◌∙◌, subst, ℕ, zero, suc, List, [], append-nil, length, take, drop, get_or, Bool, true, false, eqb, inl, inr, Option, Some, None, Result, Ok, Err, IfOk, arith, false≢true, eq-eqb, and_right, and_parts, cases_lt, cond-false, Mark, Class, Front, Read, marked, mark_of, is_word, Profile, IsIndicator, Start, digit, start_of, ReadsFrom, Prefix, prefix_of, IsPrefixed, ReadsWord, class_of, content_of, StandsFor, front_view, FrontStandsFor}
+use Rattle.cborn_lex.proofs.Common.{refl, sym, ◌∙◌, subst, ℕ, zero, suc, List, [], append-nil, length, take, drop, get_or, Bool, true, false, eqb, inl, inr, Option, None, Result, Ok, Err, IfOk, arith, false≢true, eq-eqb, and_right, and_parts, cases_lt, cond-false, Mark, Class, Front, Read, marked, mark_of, is_word, Profile, IsIndicator, Start, digit, start_of, ReadsFrom, Prefix, prefix_of, IsPrefixed, ReadsWord, class_of, content_of, StandsFor, front_view, FrontStandsFor}
 use Rattle.cborn_lex.specs.declared.classes.Kind.{Kind}
-use Rattle.cborn_lex.specs.declared.classes.Kind.TheVariants as kinds
 use Rattle.cborn_lex.specs.declared.fronts.Front.{Front as FrontIn}
-use Rattle.cborn_lex.specs.declared.fronts.Front.TheVariants as fronts
 use Rattle.cborn_lex.specs.declared.classes.Class.TheVariants as classes
 
 nothing_in : (k : Kind) (n : ℕ) → content_of (class_of k n []) ≡ []

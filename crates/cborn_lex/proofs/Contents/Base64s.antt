@@ -1,6 +1,6 @@
 -- A content of b64'..' stands for some bytes or for none.
-use Rattle.std.specs.Prelude.{◌≡◌, ◌-◌, ◌%◌, ◌∷◌, ◌++◌, ◌⊎◌}
-use Rattle.cborn_lex.proofs.Common.{arith, refl, ap, ◌∙◌, ℕ, zero, suc, List, [], map, replicate, length, Bool, true, not, cond, eqb, inl, inr, Result, Ok, Err, cond_both, and_parts, and_from, lt-ltb, list_all-append, list_any, filter, IsBytes, IsStrict, decode_of, standard, DecodeError, is_white, to_standard, filled, base64_text, IsBase64}
+use Rattle.std.specs.Prelude.{◌≡◌, ◌∷◌, ◌⊎◌}
+use Rattle.cborn_lex.proofs.Common.{arith, refl, ap, ◌∙◌, ℕ, zero, suc, List, [], map, replicate, Bool, true, cond, eqb, inl, inr, Result, Ok, Err, cond_both, and_parts, and_from, lt-ltb, list_all-append, filter, IsBytes, IsStrict, decode_of, standard, DecodeError, to_standard, filled, base64_text, IsBase64}
 use Rattle.base64.proofs.EngineFacts.{decode_of-encode_of, decode_of_strict}
 use Rattle.cborn_lex.proofs.Contents.Decoded.{is_byte, are_bytes, bytes_at, decoded_are_bytes}
 

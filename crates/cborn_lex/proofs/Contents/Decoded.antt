@@ -1,8 +1,8 @@
 -- What base64 decodes without a fault is bytes.
 use Rattle.std.specs.Prelude.{◌≡◌, ◌+◌, ◌*◌, ◌/◌, ◌%◌, ◌<◌, ◌∷◌, ◌⊎◌}
-use Rattle.cborn_lex.proofs.Common.{refl, sym, ap, ◌∙◌, ℕ, zero, suc, List, [], length, take, drop, Bool, true, ltb, inl, inr, Option, Some, None, Result, Ok, Err, arith, and_parts, and_from, eq-eqb, ltb-true, lt-ltb, list_all-append, get_or-drop, list_all, slice_index, DecodeError, IsBytes, decode_of}
+use Rattle.cborn_lex.proofs.Common.{refl, sym, ap, ◌∙◌, ℕ, zero, suc, List, [], length, take, Bool, true, ltb, inl, inr, Option, None, Result, Ok, Err, arith, and_parts, and_from, eq-eqb, ltb-true, lt-ltb, list_all-append, get_or-drop, list_all, slice_index, DecodeError, IsBytes, decode_of}
 use Rattle.base64.specs.declared.engine.general_purpose.GeneralPurpose.{GeneralPurpose}
-use Rattle.base64.specs.Decode.{or_else, symbol_error, group_error, group_bytes, groups_error, groups_bytes, decode_group, push_leftover, scan, scan_steps, scan_last, no_leftover, suffix_bytes, lone_error, groups_before_last, decode_outcome, IsDecodeTable}
+use Rattle.base64.specs.Decode.{or_else, symbol_error, group_error, group_bytes, groups_error, groups_bytes, decode_group, push_leftover, scan, scan_steps, suffix_bytes, lone_error, groups_before_last, decode_outcome, IsDecodeTable}
 use Rattle.base64.proofs.Decoding.{IsLeftover, IsLeftover_next}
 use Rattle.base64.proofs.Tables.{IsDecodeTable_from, are_tables_inverse}
 

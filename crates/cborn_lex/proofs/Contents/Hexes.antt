@@ -1,11 +1,10 @@
 -- A content of h'..' stands for some bytes or for none.
-use Rattle.cborn_lex.proofs.Common.{arith, IfOk, refl, sym, ap, ◌∙◌, subst, ℕ, List, [], length, take, drop, get_or, Bool, true, false, not, cond, eqb, inl, inr, Option, Some, None, Result, Ok, Err, append_assoc, length-append, eq-eqb, false≢true, drop_more, drop_all, cond-true, cond-false, and_parts, and_from, eqb-true, not-true, or_cases, list_all, is_digit, is_not, is_white, onto, strip, after, HasDigits, nothing, space, comment, IsHex}
-use Rattle.std.specs.Prelude.{◌/◌, ◌%◌, MatchResult, ◌≡◌, ◌+◌, ◌<◌, ◌≤◌, ◌∷◌, ◌++◌, ◌⊎◌}
+use Rattle.cborn_lex.proofs.Common.{arith, IfOk, refl, sym, ap, ◌∙◌, subst, ℕ, List, [], length, take, drop, get_or, Bool, true, false, not, cond, eqb, inl, inr, Option, Some, None, Result, Ok, Err, append_assoc, length-append, drop_more, drop_all, cond-true, cond-false, and_parts, and_from, eqb-true, not-true, list_all, is_digit, is_not, is_white, onto, strip, after, HasDigits, nothing, space, comment, IsHex}
+use Rattle.std.specs.Prelude.{◌/◌, MatchResult, ◌≡◌, ◌+◌, ◌<◌, ◌≤◌, ◌∷◌, ◌++◌, ◌⊎◌}
 use Rattle.std.specs.Result.{is_ok}
 use Rattle.std.proofs.Math.Seq.{take-append_seam}
-use Rattle.hex.specs.Hex.{decode_of, decode_pairs, decode_sized}
+use Rattle.hex.specs.Hex.{decode_of, decode_sized}
 use Rattle.hex.specs.declared.error.FromHexError.{FromHexError}
-use Rattle.hex.specs.declared.error.FromHexError.TheVariants.{OddLength, InvalidStringLength}
 use Rattle.cborn_lex.specs.Strings.{digit}
 
 white_no_digit : (c : ℕ) → is_white c ≡ true → is_digit c 16 ≡ false

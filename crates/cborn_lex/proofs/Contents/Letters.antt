@@ -1,6 +1,6 @@
 -- What a content stands for, letter by letter.
 use Rattle.std.specs.Prelude.{◌≡◌, ◌+◌, ◌-◌, ◌*◌, ◌<◌, ◌≤◌, ◌∷◌, ◌++◌, ◌&&◌, ◌||◌}
-use Rattle.cborn_lex.proofs.Common.{refl, sym, ap, ◌∙◌, subst, ℕ, List, [], length, drop, get_or, map, Bool, true, false, not, cond, eqb, leb, inl, inr, Option, Some, None, arith, append_assoc, lit<, cond-false, and_parts, and_from, eq-eqb, eqb-true, not-true, or_cases, false≢true, ne_eqb, encode_ascii, encode_utf8, list_all, flat_map, is_escape, escape_code, are_hex, code, is_high, is_low, IsText, Letter, raw, escaped, unit, pair, written, meant, is_letter, is_raw, code_at, low_code, paired, unit_from, escape_of, length-append}
+use Rattle.cborn_lex.proofs.Common.{refl, sym, ap, ◌∙◌, subst, ℕ, List, [], length, drop, get_or, map, Bool, true, false, not, cond, eqb, leb, inl, inr, Option, Some, None, arith, append_assoc, lit<, cond-false, and_parts, and_from, eqb-true, or_cases, false≢true, ne_eqb, encode_ascii, encode_utf8, list_all, flat_map, is_escape, escape_code, are_hex, code, is_high, is_low, IsText, Letter, raw, escaped, unit, pair, written, meant, is_letter, is_raw, code_at, low_code, paired, unit_from, escape_of, length-append}
 use Rattle.cborn_lex.proofs.Contents.Texts.{has_letters, low_at, unit_at, escape_at, LetterAt, MatchAt, letter_at_is, NoLetters, no_letters, no_more, longer}
 use Rattle.cborn_lex.proofs.Sliced.Pieces.{front_is}
 

@@ -1,5 +1,5 @@
 -- A content is the letters of one text, or of none.
-use Rattle.std.specs.Prelude.{◌≡◌, ◌<◌, ◌∷◌, ◌++◌, ◌&&◌, ◌||◌, ◌⊎◌}
+use Rattle.std.specs.Prelude.{◌≡◌, ◌<◌, ◌∷◌, ◌++◌, ◌&&◌, ◌⊎◌}
 use Rattle.cborn_lex.proofs.Common.{refl, sym, ap, ◌∙◌, subst, ℕ, zero, suc, List, [], length, Bool, true, false, not, cond, eqb, leb, inl, inr, Option, Some, None, arith, cond-true, cond-false, and_parts, and_from, eqb-true, not-true, or_parts, or_from, list_all, flat_map, is_escape, are_hex, is_high, is_low, code, four, IsText, Letter, raw, escaped, unit, pair, written, meant, is_letter, HasLetters}
 use Rattle.cborn_lex.specs.Strings as text
 

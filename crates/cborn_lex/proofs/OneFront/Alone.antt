@@ -1,6 +1,6 @@
 -- The front of a text is one thing.
 use Rattle.std.specs.Prelude.{◌≡◌, ◌∷◌, ◌++◌, ◌&&◌}
-use Rattle.cborn_lex.proofs.Common.{arith, refl, sym, ap, ◌∙◌, subst, ℕ, List, [], Bool, true, false, not, eqb, inl, inr, Option, append_assoc, append-nil, and_from, eqb-true, both_ways, true≢false, list_all, bytes_eq, codes, Profile, One, Two, Mark, LexReason, BadEscape, BadHex, BadBase64, Class, EmbedClose, Text, Bytes, Front, is_word, is_numeral, is_not, begins, mark_of, marked, integer, number_front, IsText, IsHex, IsBase64, Lacks, ContentGives, Closed, IsString, Prefix, hexadecimal, base64, unknown, prefix_of, IsPrefixed, IsAfterWord, ReadsWord, IsTag, ReadsNumber, double, simple, Start, white, slash, hash, less, greater, paren, letter, minus, digit, other, single, opening, start_of, paren_front, ReadsFrom, Reads}
+use Rattle.cborn_lex.proofs.Common.{arith, refl, sym, ap, ◌∙◌, subst, ℕ, List, [], Bool, true, false, eqb, inl, inr, Option, append_assoc, append-nil, and_from, eqb-true, both_ways, true≢false, list_all, bytes_eq, codes, Profile, One, Two, Mark, LexReason, BadEscape, BadHex, BadBase64, Class, EmbedClose, Text, Bytes, Front, is_not, begins, mark_of, marked, IsText, IsHex, IsBase64, Lacks, ContentGives, Closed, IsString, Prefix, hexadecimal, base64, unknown, prefix_of, IsPrefixed, IsAfterWord, ReadsWord, IsTag, ReadsNumber, double, simple, Start, white, slash, hash, less, greater, paren, letter, minus, digit, other, single, opening, start_of, paren_front, ReadsFrom, Reads}
 use Rattle.cborn_lex.specs.Forms.{Through}
 use Rattle.cborn_lex.proofs.OneFront.Runs.{rest, one_run, one_indicator, Closer, plain}
 use Rattle.cborn_lex.proofs.OneFront.Found.{UpTo}

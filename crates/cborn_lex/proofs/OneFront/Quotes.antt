@@ -1,6 +1,6 @@
 -- Where a quoted string ends.
 use Rattle.std.specs.Prelude.{◌≡◌, ◌∷◌, ◌++◌, ◌&&◌, ◌⊎◌}
-use Rattle.cborn_lex.proofs.Common.{arith, refl, sym, ap, ◌∙◌, ℕ, List, [], true, false, not, cond, eqb, inl, inr, Option, Some, None, cond-false, and_parts, and_from, eq-eqb, eqb-true, not-true, cases_Bool, is_not, is_content, is_unclosed, after}
+use Rattle.cborn_lex.proofs.Common.{arith, refl, sym, ap, ◌∙◌, ℕ, List, [], true, false, not, cond, eqb, inl, inr, Option, Some, None, cond-false, and_parts, and_from, eqb-true, not-true, cases_Bool, is_not, is_content, is_unclosed, after}
 use Rattle.cborn_lex.proofs.OneFront.Runs.{Found, Closer}
 
 abbrev content_at : ℕ → List ℕ → Option (List ℕ)

@@ -1,6 +1,6 @@
 -- Where a run, an indicator or a content ends is determined.
 use Rattle.std.specs.Prelude.{◌≡◌, ◌∷◌, ◌++◌, ◌⊎◌}
-use Rattle.cborn_lex.proofs.Common.{arith, refl, sym, ap, ◌∙◌, ℕ, List, [], Bool, true, false, not, cond, eqb, inl, inr, append-nil, cond-true, cond-false, and_parts, and_from, eq-eqb, eqb-true, not-false, both_ways, append_cancel_left, list_all, begins, is_word, is_not, IsRun, IsIndicator}
+use Rattle.cborn_lex.proofs.Common.{arith, refl, sym, ap, ◌∙◌, ℕ, List, [], Bool, true, false, not, cond, eqb, append-nil, cond-true, cond-false, and_parts, and_from, eq-eqb, eqb-true, not-false, both_ways, append_cancel_left, list_all, begins, is_word, is_not, IsRun, IsIndicator}
 
 pub rest : (s t z w : List ℕ) → s ≡ t → s ++ z ≡ t ++ w → z ≡ w
 rest s t z w e h = append_cancel_left s z w (h ∙ ap (λ x. x ++ w) (sym e))

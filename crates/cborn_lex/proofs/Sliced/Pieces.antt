@@ -1,6 +1,6 @@
 -- A number's parts as slices of what follows its first character.
-use Rattle.std.specs.Prelude.{◌≡◌, ◌+◌, ◌≤◌, ◌∷◌, ◌++◌, ◌&&◌}
-use Rattle.cborn_lex.proofs.Common.{refl, sym, ap, ◌∙◌, subst, ℕ, List, [], length, take, drop, Bool, true, false, not, cond, eqb, arith, append_assoc, and_parts, take-append-drop, take-append_seam, drop-append_seam, length-append, length-take-le, length-drop, begins, is_numeral, mark_of, integer, number_front, IsRun, IsIndicator, IsTag, ReadsNumber}
+use Rattle.std.specs.Prelude.{◌≡◌, ◌+◌, ◌≤◌, ◌++◌, ◌&&◌}
+use Rattle.cborn_lex.proofs.Common.{refl, sym, ap, ◌∙◌, subst, ℕ, List, [], length, take, drop, Bool, true, false, not, cond, eqb, arith, append_assoc, take-append-drop, take-append_seam, drop-append_seam, length-append, length-take-le, length-drop, begins, is_numeral, mark_of, integer, number_front, IsRun, IsIndicator, IsTag, ReadsNumber}
 
 -- where the front of x is s
 pub front_is : (n : ℕ) (x s z : List ℕ) → x ≡ s ++ z → length s ≡ n → (take n x ≡ s) × (drop n x ≡ z)

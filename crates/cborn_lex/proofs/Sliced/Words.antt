@@ -1,6 +1,6 @@
 -- A word and what follows it, and a string after its quote, as slices.
 use Rattle.std.specs.Prelude.{◌≡◌, ◌+◌, ◌<◌, ◌≤◌, ◌∷◌, ◌++◌, ◌*◌, ◌^◌}
-use Rattle.cborn_lex.proofs.Common.{refl, sym, ap, ◌∙◌, subst, ℕ, List, [], length, take, drop, get_or, Bool, true, eqb, arith, append_assoc, add-one, inl, inr, Option, take-append-drop, length-append, length-take-le, length-drop, drop_more, Mark, LexReason, Class, Front, is_word, begins, Bad, mark_of, marked, IsRun, IsIndicator, IsAfterWord, ReadsWord, IsPrefixed, prefix_of, Closed, IsString, eqb-true, EmbedClose, Ok, Err, mul-le-mul_left, cond-true, cond-false, lt-ltb, le-ltb, drop_all, digit_value, NumberTooLarge, number, within}
+use Rattle.cborn_lex.proofs.Common.{sym, ap, ◌∙◌, subst, ℕ, List, [], length, take, drop, get_or, Bool, true, eqb, arith, append_assoc, add-one, inl, inr, Option, take-append-drop, length-append, length-take-le, length-drop, drop_more, Mark, LexReason, Class, Front, is_word, begins, Bad, mark_of, marked, IsRun, IsIndicator, IsAfterWord, ReadsWord, IsPrefixed, prefix_of, Closed, IsString, eqb-true, EmbedClose, Ok, Err, mul-le-mul_left, cond-true, cond-false, lt-ltb, le-ltb, drop_all, digit_value, NumberTooLarge, number, within}
 use Rattle.cborn_lex.proofs.Sliced.Pieces.{front_is}
 
 pub word_text : (text tail : List ℕ) (n : ℕ) → 0 < length text → tail ≡ drop 1 text → take (n + 1) text ≡ get_or text 0 0 ∷ take n tail

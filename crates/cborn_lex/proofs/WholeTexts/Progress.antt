@@ -1,6 +1,6 @@
 -- A scan from piece to piece.
 use Rattle.std.specs.Prelude.{◌≡◌, ◌+◌, ◌<◌, ◌≤◌, ◌∷◌, ◌++◌}
-use Rattle.cborn_lex.proofs.Common.{Result, Ok, Err, IfErr, Fails, refl, sym, ap, ◌∙◌, subst, ℕ, List, [], length, take, drop, get_or, arith, add-one, take-append-drop, length-append, length-take-le, drop_all, drop-drop, get_or-drop, true, cond-true, Profile, LexReason, LexFault, Refused, OutOfMemory, Class, Token, Front, WhiteSpace, Read, Bad, is_white, Start, white, start_of, ReadsFrom, Reads, Covers, HasTokens, FailsAt, TokensBetween, HasNoTokens, HasNoTokenFrom, length-drop}
+use Rattle.cborn_lex.proofs.Common.{Result, IfErr, Fails, refl, ap, subst, ℕ, List, [], length, take, drop, get_or, arith, add-one, take-append-drop, length-append, length-take-le, drop_all, drop-drop, get_or-drop, true, Profile, LexReason, LexFault, Refused, OutOfMemory, Class, Token, Front, WhiteSpace, Read, Bad, is_white, start_of, ReadsFrom, Reads, Covers, HasTokens, TokensBetween, HasNoTokens, HasNoTokenFrom, length-drop}
 use Rattle.std.specs.Result.{IsErr, IsErrAnd}
 use Rattle.cborn_lex.specs.Good.{end, white_space, token}
 use Rattle.cborn_lex.proofs.GoodFronts.{taken as takes}

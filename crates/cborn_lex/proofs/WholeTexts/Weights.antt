@@ -1,6 +1,6 @@
 -- What a token weighs: one, and the bytes of its content. The tokens of a text weigh no more than four times its length.
-use Rattle.std.specs.Prelude.{◌≡◌, ◌+◌, ◌-◌, ◌*◌, ◌%◌, ◌^◌, ◌<◌, ◌≤◌, ◌∷◌, ◌++◌, ◌&&◌}
-use Rattle.cborn_lex.proofs.Common.{refl, sym, ap, ◌∙◌, subst, ℕ, suc, List, [], length, take, drop, map, replicate, Bool, true, false, not, cond, ltb, eqb, inl, inr, Option, Some, None, Result, Ok, Err, arith, length-append, length-map, length-replicate, take-append-drop, cond_both, and_parts, and_from, lt-ltb, ltb-true, list_all-append, list_all, list_any, flat_map, filter, encode_utf8, encode_utf8_all, is_digit, digit_value, standard, Profile, One, Two, Mark, Class, ArrayOpen, MapOpen, EmbedClose, ChunkOpen, TagOpen, Word, Text, Bytes, Token, LexReason, NumberTooLarge, Front, WhiteSpace, Read, Bad, mark_of, marked, is_white, is_not, integer, within, signed, number_front, word_front, escape_code, are_hex, code, is_high, is_low, IsText, HasDigits, nothing, space, comment, IsHex, to_standard, filled, IsBase64, is_content, is_unclosed, Letter, raw, escaped, unit, pair, written, meant, is_letter, IsString, Prefix, hexadecimal, base64, unknown, prefix_of, IsPrefixed, IsAfterWord, ReadsNumber, double, simple, Start, white, slash, hash, less, greater, paren, letter, minus, digit, other, single, opening, start_of, paren_front, ReadsFrom, Reads, HasTokens, TokensBetween, Lexeme, white_space, token, spelled, AreRead, tokens, AreModest, IsModest}
+use Rattle.std.specs.Prelude.{◌≡◌, ◌+◌, ◌-◌, ◌*◌, ◌^◌, ◌<◌, ◌≤◌, ◌∷◌, ◌++◌, ◌&&◌}
+use Rattle.cborn_lex.proofs.Common.{refl, sym, ap, ◌∙◌, subst, ℕ, suc, List, [], length, take, drop, map, Bool, true, false, not, cond, ltb, eqb, inl, inr, Option, Some, None, Result, Ok, Err, arith, length-append, length-map, length-replicate, take-append-drop, cond_both, and_parts, and_from, lt-ltb, ltb-true, list_all-append, list_all, flat_map, filter, encode_utf8, encode_utf8_all, standard, Profile, One, Two, Mark, Class, ArrayOpen, MapOpen, EmbedClose, ChunkOpen, TagOpen, Word, Text, Bytes, Token, LexReason, NumberTooLarge, Front, WhiteSpace, Read, Bad, mark_of, marked, is_white, is_not, integer, within, signed, number_front, word_front, escape_code, are_hex, code, is_high, is_low, IsText, HasDigits, nothing, space, comment, IsHex, to_standard, filled, IsBase64, is_content, is_unclosed, Letter, raw, escaped, unit, pair, written, meant, is_letter, IsString, Prefix, hexadecimal, base64, unknown, prefix_of, IsPrefixed, IsAfterWord, ReadsNumber, double, simple, Start, white, slash, hash, less, greater, paren, letter, minus, digit, other, single, opening, start_of, paren_front, ReadsFrom, Reads, HasTokens, TokensBetween, Lexeme, white_space, token, spelled, AreRead, tokens, AreModest, IsModest}
 use Rattle.std.specs.Str.{IsUtf8, all_scalars}
 use lib.Utf8.{encode, scalar, scalar_cases}
 use Rattle.hex.proofs.HexLemmas.{decode_of-ok}

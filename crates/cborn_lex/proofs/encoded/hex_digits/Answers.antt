@@ -1,5 +1,5 @@
-use Rattle.std.specs.Prelude.{◌≡◌, ◌+◌}
-use Rattle.cborn_lex.proofs.Common.{arith, refl, sym, ap, ◌∙◌, [], subst, false, true, not, eqb, get_or, drop, nat_lt, append-nil, Some, lt-ltb, le-ltb, cond-false, ne_eqb, drop_more, strip, after, is_digit, cond-true, is_white, eq-eqb}
+use Rattle.std.specs.Prelude.{◌+◌}
+use Rattle.cborn_lex.proofs.Common.{arith, refl, sym, ap, ◌∙◌, false, true, not, eqb, get_or, drop, nat_lt, append-nil, lt-ltb, le-ltb, cond-false, ne_eqb, drop_more, strip, after, is_digit, cond-true, is_white, eq-eqb}
 use Rattle.cborn_lex.proofs.Contents.Hexes.{after_none, at_inside, at_digit, at_end, moved}
 use Rattle.cborn_lex.proofs.encoded.hex_digits.Goals as goal
 use Rattle.cborn_lex.proofs.encoded.hex_digits.Goals.{then-inside, else-inside+then-digit_of-lt16+in_ok-push, else-inside+else-digit_of-lt16+then-c-eq47, else-inside+else-digit_of-lt16+else-c-eq47+else-not-is_white, then-inside-2, else-inside-2}

@@ -1,5 +1,5 @@
-use Rattle.cborn_lex.proofs.Common.{arith, refl, sym, ap, ◌∙◌, take, number, within, begins, is_numeral}
-use Rattle.cborn_lex.proofs.Decimals.{digits_pass, long_value}
+use Rattle.cborn_lex.proofs.Common.{sym, ap, ◌∙◌, number, within}
+use Rattle.cborn_lex.proofs.Decimals.{long_value}
 use Rattle.cborn_lex.proofs.integers.any_integer.Goals as goal
 
 pub returns-then-not-begins_numeral-clause-value : goal.returns-then-not-begins_numeral-clause-value

@@ -1,5 +1,5 @@
 use Rattle.std.specs.Prelude.{◌+◌, ◌-◌, ◌*◌, ◌≡◌}
-use Rattle.cborn_lex.proofs.Common.{sym, ap, ◌∙◌, arith, inl, inr, get_or, false≢true, eq-eqb, eqb-true, ltb-true}
+use Rattle.cborn_lex.proofs.Common.{sym, ap, ◌∙◌, arith, inr, get_or, false≢true, eq-eqb, eqb-true, ltb-true}
 use Rattle.cborn_lex.proofs.Decimals.{digit_more, digit_numeral, below_more, fits_more, decimal_value, decimal_run, no_decimal}
 use Rattle.cborn_lex.proofs.integers.decimal_at.Goals as goal
 use Rattle.cborn_lex.proofs.integers.decimal_at.Goals.{then-len-eq0-via-then-len-eq0, then-len-eq0-via-else-len-eq0+then-tail-eq48, else-len-tail-via-then-len-tail+else-goes_on, else-len-tail-via-else-len-tail, then-len-gt1, else-len-gt1}

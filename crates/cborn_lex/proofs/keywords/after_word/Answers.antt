@@ -1,6 +1,5 @@
 use Rattle.cborn_lex.proofs.Common.{sym, ◌∙◌, refl, subst, arith, Front, word_front, FrontStandsFor}
 use Rattle.cborn_lex.proofs.TwoParts.{nothing_appended}
-use Rattle.cborn_lex.proofs.Sliced.Words.{prefix_made}
 use Rattle.cborn_lex.proofs.keywords.after_word.Goals as goal
 
 pub returns-else-begins_with : goal.returns-else-begins_with

@@ -1,5 +1,5 @@
-use Rattle.std.specs.Prelude.{◌≡◌, ◌<◌, ◌≤◌, ◌+◌, ◌-◌}
-use Rattle.cborn_lex.proofs.Common.{ℕ, List, length, take, drop, map, subst, sym, arith, take-length, mask_l, is_special, LettersSoFar}
+use Rattle.std.specs.Prelude.{◌<◌, ◌≤◌, ◌+◌}
+use Rattle.cborn_lex.proofs.Common.{ℕ, List, length, subst, sym, arith, take-length, LettersSoFar}
 use Rattle.cborn_lex.proofs.Runs.{short_run, short_run_more, left_more, escape_more, still}
 use Rattle.cborn_lex.proofs.letters.push_short_runs.Goals as goal
 use lib.Count.{count_trailing_zeros}
