@@ -50,7 +50,7 @@ pub use Rattle.cborn_edn.specs.declared.events.Event.TheVariants.{Bignum, Close,
 pub use Rattle.cborn_edn.specs.declared.faults.EdnFault.TheVariants.{Refused}
 pub use Rattle.cborn_edn.specs.declared.notators.Notator.{Notator}
 pub use Rattle.cborn_edn.specs.declared.states.Around.{Around}
-pub use Rattle.cborn_edn.specs.devices.Commas.{AllowsCount, commas, commas_of_content, commas_of_fields, commas_of_input, commas_of_pairs, commas_of_pairs_before, commas_of_piece, commas_of_pieces, commas_of_row, commas_of_row_before, commas_of_strings, commas_of_strings_before}
+pub use Rattle.cborn_edn.specs.devices.Commas.{AllowsCount, Parse, commas, commas_of_content, commas_of_fields, commas_of_input, commas_of_pairs, commas_of_pairs_before, commas_of_piece, commas_of_pieces, commas_of_row, commas_of_row_before, commas_of_strings, commas_of_strings_before}
 pub use Rattle.cborn_edn.specs.devices.Events.{AreFew, Comes, FitsSoFar, Follows, Holds, OpeningFits, bignum_of, Fits as EventFits}
 pub use Rattle.cborn_edn.specs.devices.Handed.{AllHanded, Handed, Hands, InnermostFollows, IsSpelled, Reads, chunk_event, front, front_of, listed_entries, row_front, size_asked, states_around, states_around_home, states_around_nest, string_event}
 pub use Rattle.cborn_edn.specs.devices.Kept.{around, arounds_home, arounds_nest, arounds_of, bracket, brackets_home, brackets_nest, brackets_of, bytes_around, bytes_around_home, bytes_around_nest, bytes_before, bytes_open, chunks_in, count_of, joint, kind_before, kind_or, level_of, phase_of, piece_bytes, pieces_bytes, stack_in, stack_of, string_at, string_in, wanting}
@@ -58,7 +58,6 @@ pub use Rattle.cborn_edn.specs.devices.Machine.{Answer, Home, Nest, Stack, State
 pub use Rattle.cborn_edn.specs.devices.MeaningErrors.{Notes, earlier, first_error, is_none, lexical}
 pub use Rattle.cborn_edn.specs.devices.Notating.{IsBadIn, IsCounted, IsEnded, IsHeld, IsLowest, after, beginning, content, count_one, ending, is_counted, late_in, late_size, lates, lowest_with, next_after, next_around, next_in, one_more, quote, separator, string_end, tally, least as lower}
 pub use Rattle.cborn_edn.specs.devices.Noted.{noted, noted_home, noted_nest, noted_stack, pieces_noted, strings_noted}
-pub use Rattle.cborn_edn.specs.devices.Parse.{Allows, Parse, is_closing}
 pub use Rattle.cborn_edn.specs.devices.Reading.{AtEnd, IsReadTo, IsReading, Judged, Last, Reached, is_trailing_comma, item, may_end, pieces}
 pub use Rattle.cborn_edn.specs.devices.Said.{Parsed, chunks, entries_before, entries_in, faults, faults_before, faults_before_pairs, faults_in, faults_of_fields, faults_of_input, faults_of_pairs, faults_of_piece, faults_of_pieces, faults_of_row, faults_of_strings, kind_in, node, nodes, nodes_before, nodes_in, nodes_of_input, snoc, snoc_entry, str, str_of}
 pub use Rattle.cborn_edn.specs.devices.Shows.{IsOpenAt, Shows, Sized, of_array, of_map, content_state, entries_at, fields_state, piece_of, after_opening}

@@ -1,4 +1,5 @@
 -- The lemmas that answers use, each from its file.
+pub use Rattle.cborn_edn.proofs.Grammar.Takes.{ended_same}
 pub use Rattle.cborn_edn.proofs.HandedOver.Closings.{hands_array_end, hands_map_end, hands_tag_end, hands_bignum, hands_integer, hands_tag}
 pub use Rattle.cborn_edn.proofs.HandedOver.Fitting.{none_shown, number_fits, simple_fits, tag_fits}
 pub use Rattle.cborn_edn.proofs.HandedOver.Handing.{free, inside, outside, silenced, stays, taken}
@@ -19,6 +20,6 @@ pub use Rattle.cborn_edn.proofs.Reader.Settling.{text_item, text_noted}
 pub use Rattle.cborn_edn.proofs.Reader.Showing.{known_bytes, same_around, same_errors}
 pub use Rattle.cborn_edn.proofs.Reader.Stepping.{further, last_read, ready, refusal, same_read, stop_inside, token_read, went_on}
 pub use Rattle.cborn_edn.proofs.Reader.Taking.{after_taken, chunked, end_taken, few_here, item_taken, may_end, separator_low, shown_as, simple_number, sized_kind, sized_low, skipped, skipped_to, taken_from, text_taken, went}
-pub use Rattle.cborn_edn.proofs.Reader.Turning.{adding, appends_nothing, arm, bare_taken, chunk_home, embed_taken, ended_same, is_builds, is_has, is_has_number, is_wants, is_wants_number, item_home, no_chunk, no_piece, no_piece_taken, not_text, paren_handed, same_handed, separator_handed, shown_kind, start_inside, still_taken, taken_as, taken_same, turn}
+pub use Rattle.cborn_edn.proofs.Reader.Turning.{adding, appends_nothing, arm, bare_taken, chunk_home, embed_taken, is_builds, is_has, is_has_number, is_wants, is_wants_number, item_home, no_chunk, no_piece, no_piece_taken, not_text, paren_handed, same_handed, separator_handed, shown_kind, start_inside, still_taken, taken_as, taken_same, turn}
 pub use Rattle.cborn_edn.proofs.Short.Facts.{shown_back, shown_only}
 pub use Rattle.cborn_edn.proofs.Shown.Characters.{fits_more, fits_whole, is_text}

@@ -1,11 +1,9 @@
 -- The text of a partial sequence, as heads and strings come.
-use Rattle.std.specs.Prelude.{◌≡◌, ◌+◌, ◌-◌, ◌^◌, ◌≤◌, ◌∷◌, ◌++◌, ◌⊎◌, if◌then◌else◌}
-use Rattle.cborn_edn.proofs.Common.{refl, sym, ap, ◌∙◌, subst, ℕ, List, [], length, map, drop, min, decimal, append_assoc, append-nil, Option, Some, None, Bool, true, false, not, is_some, inl, inr, Result, Ok, Err, OnOk, arith, le-ltb, ltb-true, ltb-false, eq-eqb, IsUtf8, flat_map-append, drop-append_seam, encode_lower, Fixed, Width, Direct, One, Two, Four, Eight, holds, least, StringKind, OfBytes, OfText, Tree, trees, entries, FitsAll, Partial, top, inside, Opening, an_array, a_map, a_tag, in_chunks, no_part, part, put, built, paired, last_key, chunks_of, string_tree, integer_tree, AreStrings, Ends, IsFree, ended_size, Notator, Absent, Wide, is_good, others, shown, shown_chunk, shown_string, shown_lines, item_texts, pair_texts, joined_by, indicator, mark_for, mark_for_size, opened, Shown, IsBadText, IsBadAmong, IsBadInPairs, IsBadChunk, LowestBadText, after, separator, ending, next_after, beginning, next_in, next_around, late_size, is_counted, one_more, IsCounted, IsEnded, count_one, tally, late_in, lates, IsBadIn, IsLowest, lowest_with, quote, content, string_end, IsHeld, codes, ByteNode as Bytes, TextNode as Text, count-trees, count_entries-entries, lower}
-use Rattle.std.proofs.Math.Dec.{ltb}
-use Rattle.cborn_model.specs.declared.heads.Size.TheVariants.{Endless}
+use Rattle.std.specs.Prelude.{◌≡◌, ◌+◌, ◌-◌, ◌^◌, ◌∷◌, ◌++◌, ◌⊎◌, if◌then◌else◌}
+use Rattle.cborn_edn.proofs.Common.{refl, sym, ap, ◌∙◌, subst, ℕ, List, [], length, map, drop, min, append_assoc, append-nil, Option, Some, None, Bool, true, false, not, is_some, inl, inr, Result, Ok, Err, OnOk, arith, le-ltb, ltb-true, ltb-false, eq-eqb, IsUtf8, flat_map-append, drop-append_seam, Fixed, Width, StringKind, OfBytes, OfText, Tree, trees, entries, FitsAll, Partial, top, inside, Opening, an_array, a_map, in_chunks, no_part, part, put, built, paired, last_key, chunks_of, string_tree, integer_tree, AreStrings, Ends, IsFree, Notator, is_good, others, shown, shown_chunk, shown_string, shown_lines, item_texts, pair_texts, joined_by, Shown, IsBadText, IsBadAmong, IsBadInPairs, IsBadChunk, LowestBadText, after, separator, ending, next_after, beginning, next_in, next_around, late_size, is_counted, one_more, IsCounted, IsEnded, count_one, tally, late_in, lates, IsBadIn, IsLowest, lowest_with, quote, content, string_end, IsHeld, codes, ByteNode as Bytes, TextNode as Text, count-trees, count_entries-entries, lower}
 use Rattle.cborn_wire.proofs.Visiting.Counting.{last_same}
 use Rattle.cborn_edn.specs.declared.notators.Next.{Next}
-use Rattle.cborn_edn.specs.declared.notators.Next.TheVariants.{FirstItem, Item, FirstElement, Element, FirstKey, Key, Value, Content, FirstChunk, Chunk, FirstLateElement, LateElement, FirstLateKey, LateKey, LateValue}
+use Rattle.cborn_edn.specs.declared.notators.Next.TheVariants.{FirstItem, Item, FirstElement, Element, FirstKey, Key, Value, FirstChunk, Chunk, FirstLateElement, LateElement, FirstLateKey, LateKey, LateValue}
 use Rattle.cborn_edn.specs.declared.notators.OpenString.{OpenString}
 use Rattle.cborn_edn.specs.declared.notators.Late.{Late}
 use Rattle.cborn_edn.specs.devices.Notating.{following, first, written}
@@ -27,26 +25,20 @@ next_push s [] t = refl
 next_push s (u ∷ ts) t = next_push (after s) ts t
 
 next_put : (f : Partial) (t : Tree) → next_in (put f t) ≡ after (next_in f)
-next_put (top ts) t = next_push FirstItem ts t
-next_put (inside f o ts) t = next_push (first o) ts t
+next_put f t = grind (arith, next_push)
 
 around_put : (f : Partial) (t : Tree) → next_around (put f t) ≡ next_around f
-around_put (top ts) t = refl
-around_put (inside f o ts) t = refl
+around_put f t = grind arith
 
 written_put : (f : Partial) (t : Tree) → written (put f t) ≡ (written f ++ separator (next_in f)) ++ shown t
-written_put (top ts) t = following_push FirstItem ts t ∙ sym (append_assoc (following FirstItem ts) (separator (next_after FirstItem ts)) (shown t))
-written_put (inside f o ts) t =
-    ap (λ l. (written f ++ separator (next_in f)) ++ (beginning o ++ l)) (following_push (first o) ts t)
-    ∙ simp append_assoc
+written_put f t = grind (arith, append_assoc, following_push)
 
 tally_put : (s : Next) (n : ℕ) (ts : List Tree) (t : Tree) → tally s n (ts ++ t ∷ []) false ≡ tally s n ts true
 tally_put s n [] t = refl
 tally_put s n (u ∷ ts) t = tally_put (after s) (count_one s n) ts t
 
 lates_put : (f : Partial) (t : Tree) → lates false (put f t) ≡ lates true f
-lates_put (top ts) t = refl
-lates_put (inside f o ts) t = ap (λ n. lates true f ++ late_in o (length ((written f ++ separator (next_in f)) ++ beginning o)) n) (tally_put (first o) 0 ts t)
+lates_put f t = grind (arith, tally_put)
 
 -- Texts that aren't UTF-8.
 
@@ -66,9 +58,7 @@ among_last [] t p h = inl h
 among_last (u ∷ ts) t p h = inr (among_last ts t p h)
 
 bad_put : (f : Partial) (t : Tree) (p : ℕ) → IsBadIn (put f t) p → IsBadIn f p ⊎ IsBadText t p
-bad_put (top ts) t p h = among_push ts t p h
-bad_put (inside f o ts) t p (inl h) = inl (inl h)
-bad_put (inside f o ts) t p (inr h) = elim (among_push ts t p h) [ inl a ↦ inl (inr a) | inr b ↦ inr b ]
+bad_put f t p h1 = grind (arith, among_push)
 
 bad_before : (f : Partial) (t : Tree) (p : ℕ) → IsBadIn f p → IsBadIn (put f t) p
 bad_before (top ts) t p h = among_front ts t p h
@@ -76,12 +66,10 @@ bad_before (inside f o ts) t p (inl h) = inl h
 bad_before (inside f o ts) t p (inr h) = inr (among_front ts t p h)
 
 bad_last : (f : Partial) (t : Tree) (p : ℕ) → IsBadText t p → IsBadIn (put f t) p
-bad_last (top ts) t p h = among_last ts t p h
-bad_last (inside f o ts) t p h = inr (among_last ts t p h)
+bad_last f t p h1 = grind (arith, among_last)
 
 lowest_same : (P Q : ℕ → Type 0) (o : Option ℕ) → ((p : ℕ) → P p → Q p) → ((p : ℕ) → Q p → P p) → IsLowest P o → IsLowest Q o
-lowest_same P Q None to back h = λ p q. h p (back p q)
-lowest_same P Q (Some p) to back h = (to p h.0, λ q k. h.1 q (back q k))
+lowest_same P Q o h1 h2 h3 = grind arith
 
 -- The end of a container.
 
@@ -137,21 +125,16 @@ plain LateValue = Value
 plain s = s
 
 plain_after : (s : Next) → after (plain s) ≡ plain (after s)
-plain_after FirstItem = refl
-plain_after _ = refl
+plain_after s = grind arith
 
 plain_separator : (s : Next) → separator (plain s) ≡ separator s
-plain_separator FirstItem = refl
-plain_separator _ = refl
+plain_separator s = grind arith
 
 plain_ending : (s : Next) → ending (plain s) ≡ ending s
-plain_ending (FirstChunk OfBytes) = refl
-plain_ending (FirstChunk OfText) = refl
-plain_ending _ = refl
+plain_ending s = grind arith
 
 plain_counted : (s : Next) → is_counted (plain s) ≡ false
-plain_counted FirstItem = refl
-plain_counted _ = refl
+plain_counted s = grind arith
 
 plain_following : (s : Next) (ts : List Tree) → (following s ts ≡ following (plain s) ts) × (plain (next_after s ts) ≡ next_after (plain s) ts)
 plain_following s [] = (refl, refl)
@@ -197,14 +180,7 @@ tally_one s n (t ∷ ts) = tally_one (after s) (count_one s n) ts
 
 counted_last : (s : Next) (ts : List Tree) (i : ℕ) (w : Width) (front old new : List Late) → IsCounted (next_after s ts) old new → old ≡ front ++ record { at = i; width = w; count = tally s 0 ts false } ∷ []
     → new ≡ front ++ record { at = i; width = w; count = tally s 0 ts true } ∷ []
-counted_last s ts i w front old new c h = go (is_counted (next_after s ts)) refl
-  where
-    more_is : (b : Bool) → is_counted (next_after s ts) ≡ b → (if b then one_more (tally s 0 ts false) else tally s 0 ts false) ≡ tally s 0 ts true
-    more_is b e = ap (λ b. if b then one_more (tally s 0 ts false) else tally s 0 ts false) (sym e) ∙ sym (tally_one s 0 ts)
-
-    go : (b : Bool) → is_counted (next_after s ts) ≡ b → new ≡ front ++ record { at = i; width = w; count = tally s 0 ts true } ∷ []
-    go true e = c.1 e front (record { at = i; width = w; count = tally s 0 ts false }) h ∙ ap (λ n. front ++ record { at = i; width = w; count = n } ∷ []) (more_is true e)
-    go false e = c.0 e ∙ h ∙ ap (λ n. front ++ record { at = i; width = w; count = n } ∷ []) (more_is false e)
+counted_last s ts i w front old new h1 h2 = grind (arith, tally_one)
 
 -- one more node begins
 counted_next : (f : Partial) (old new : List Late) → IsCounted (next_in f) old new → old ≡ lates false f → new ≡ lates true f
@@ -215,27 +191,7 @@ counted_next (inside f o ts) old new c h = c.0 (uncounted (first o) ts) ∙ h
 
 -- a count beyond that has no indicator
 late_low : (w : Width) (n : ℕ) → late_size w (low n) ≡ late_size w n
-late_low w n = go (ltb n (2 ^ 64)) refl
-  where
-    either : (b : Bool) (m : ℕ) → 2 ^ 32 ≤ m → (if b then Eight else least m) ≡ least m
-    either true m most = sym (least_is_eight m most)
-    either false m most = refl
-
-    same : (w : Width) (m : ℕ) → 2 ^ 32 ≤ m → (if holds w m then w else least m) ≡ least m
-    same Direct m most = ap (λ b. if b then Direct else least m) (le-ltb m 24 (omega (arith, most)))
-    same One m most = ap (λ b. if b then One else least m) (le-ltb m 256 (omega (arith, most)))
-    same Two m most = ap (λ b. if b then Two else least m) (le-ltb m (2 ^ 16) (omega (arith, most)))
-    same Four m most = ap (λ b. if b then Four else least m) (le-ltb m (2 ^ 32) (omega (arith, most)))
-    same Eight m most = either (ltb m (2 ^ 64)) m most
-
-    none : (w : Width) (m : ℕ) → 2 ^ 32 ≤ m → late_size w m ≡ []
-    none w m most =
-        ap (λ v. opened (mark_for v m)) (same w m most)
-        ∙ ap (λ b. opened (if b then Absent else Wide (least m))) (eq-eqb _ _ refl)
-
-    go : (b : Bool) → ltb n (2 ^ 64) ≡ b → late_size w (low n) ≡ late_size w n
-    go true e = let few = ltb-true n (2 ^ 64) e in ap (late_size w) (omega (arith, few))
-    go false e = let many = ltb-false n (2 ^ 64) e in none w (low n) (grind (arith, many)) ∙ sym (none w n (omega (arith, many)))
+late_low w n = grind (arith, eq-eqb, le-ltb, least_is_eight, ltb-false, ltb-true)
 
 -- the indicator that is inserted where the container ends
 abbrev late_text : Opening → List Tree → List ℕ
@@ -264,28 +220,7 @@ sized_end f o ts old new out text ends ended e g =
     (r.0 ∙ e ∙ append-nil (lates true f), r.1 ∙ ap (λ l. l ++ ending (next_after (first o) ts)) g)
 
 shown_built : (o : Opening) (ts : List Tree) → Ends o ts → (beginning o ++ (late_text o ts ++ following (first o) ts)) ++ ending (next_after (first o) ts) ≡ shown (built o ts)
-shown_built (an_array p (Fixed w) (Some n)) ts e =
-    let g = items_joined ts in
-    bracketed (codes "[" ++ opened (mark_for w n)) (codes "]") _ _ _ g.0 g.1
-    ∙ ap (λ m. codes "[" ++ (opened (mark_for w m) ++ (joined_by (codes ", ") (item_texts (trees ts)) ++ codes "]"))) (sym (count-trees ts ∙ e))
-shown_built (an_array p (Fixed w) None) ts e =
-    let g = items_joined ts in
-    bracketed (codes "[" ++ late_size w (length ts)) (codes "]") _ _ _ ((plain_following FirstLateElement ts).0 ∙ g.0) (ending_plain FirstLateElement ts ∙ g.1)
-    ∙ ap (λ m. codes "[" ++ (opened (mark_for_size (ended_size (Fixed w) None (length ts)) m) ++ (joined_by (codes ", ") (item_texts (trees ts)) ++ codes "]"))) (sym (count-trees ts))
-shown_built (an_array p Endless c) ts e = let g = items_joined ts in bracketed (codes "[_ ") (codes "]") _ _ _ g.0 g.1
-shown_built (a_map p (Fixed w) (Some n)) ts e =
-    let g = pairs_joined ts e.1 in
-    bracketed (codes "{" ++ opened (mark_for w n)) (codes "}") _ _ _ g.0 g.1
-    ∙ ap (λ m. codes "{" ++ (opened (mark_for w m) ++ (joined_by (codes ", ") (pair_texts (entries (paired ts))) ++ codes "}"))) (sym (count_entries-entries (paired ts) ∙ e.0))
-shown_built (a_map p (Fixed w) None) ts e =
-    let g = pairs_joined ts e.1 in
-    bracketed (codes "{" ++ late_size w (length (paired ts))) (codes "}") _ _ _ ((plain_following FirstLateKey ts).0 ∙ g.0) (ending_plain FirstLateKey ts ∙ g.1)
-    ∙ ap (λ m. codes "{" ++ (opened (mark_for_size (ended_size (Fixed w) None (length (paired ts))) m) ++ (joined_by (codes ", ") (pair_texts (entries (paired ts))) ++ codes "}"))) (sym (count_entries-entries (paired ts)))
-shown_built (a_map p Endless c) ts e = let g = pairs_joined ts e.1 in bracketed (codes "{_ ") (codes "}") _ _ _ g.0 g.1
-shown_built (a_tag p w n) ts (t, is) =
-    subst (λ us. (beginning (a_tag p w n) ++ following Content us) ++ ending (next_after Content us) ≡ shown (built (a_tag p w n) us)) (sym is)
-    (ap (λ l. ((decimal n ++ (indicator (mark_for w n) ++ codes "(")) ++ l) ++ codes ")") (append-nil (shown t)) ∙ simp append_assoc)
-shown_built (in_chunks p k) ts e = chunks_joined k p ts e
+shown_built o ts h1 = grind (arith, append-nil, append_assoc, bracketed, chunks_joined, count-trees, count_entries-entries, ending_plain, items_joined, pairs_joined, plain_following)
 
 in_pairs : (ts : List Tree) (p : ℕ) → last_key ts ≡ None → (IsBadAmong (trees ts) p → IsBadInPairs (entries (paired ts)) p) × (IsBadInPairs (entries (paired ts)) p → IsBadAmong (trees ts) p)
 in_pairs [] p e = (λ h. h, λ h. h)
@@ -308,20 +243,13 @@ in_texts (Text q w x ∷ ts) p s =
 in_texts (_ ∷ ts) p s = absurd s.0
 
 bad_built : (o : Opening) (ts : List Tree) (p : ℕ) → Ends o ts → (IsBadAmong (trees ts) p → IsBadText (built o ts) p) × (IsBadText (built o ts) p → IsBadAmong (trees ts) p)
-bad_built (an_array q s c) ts p e = (λ h. h, λ h. h)
-bad_built (a_map q s c) ts p e = in_pairs ts p e.1
-bad_built (a_tag q w n) ts p (t, is) =
-    subst (λ us. (IsBadAmong (trees us) p → IsBadText (built (a_tag q w n) us) p) × (IsBadText (built (a_tag q w n) us) p → IsBadAmong (trees us) p)) (sym is)
-    (λ h. elim h [ inl a ↦ a | inr b ↦ absurd b ], λ h. inl h)
-bad_built (in_chunks q OfBytes) ts p e = (λ h. absurd (no_bytes ts p e h), λ h. absurd h)
-bad_built (in_chunks q OfText) ts p e = in_texts ts p e
+bad_built o ts p h1 = grind (arith, in_pairs, in_texts, no_bytes)
 
 -- What the visitor holds.
 
 -- where a place was noted there is one
 pub noted : (bad : Option ℕ) (b : Bool) → is_some bad ≡ not b → b ≡ false → bad ≡ None → ⊥
-noted None b e f none = let t : not b ≡ true = ap not f in cc
-noted (Some p) b e f none = cc
+noted bad b e f none = grind arith
 
 -- a node that is no text is whole
 pub put_held : (v w : Notator) (f : Partial) (t : Tree) → ((p : ℕ) → IsBadText t p → ⊥) → w.next ≡ after v.next → w.around ≡ v.around → w.bad ≡ v.bad
@@ -336,8 +264,7 @@ put_held v w f t good next around bad counted out h =
     }
 
 pub good_integer : (p : ℕ) (negative : Bool) (w : Width) (n q : ℕ) → IsBadText (integer_tree p negative w n) q → ⊥
-good_integer p true w n q h = h
-good_integer p false w n q h = h
+good_integer p negative w n q h1 = grind arith
 
 -- a container begins
 pub open_held : (v w : Notator) (f : Partial) (o : Opening) → w.next ≡ first o → w.around.items ≡ v.around.items ++ v.next ∷ [] → w.bad ≡ v.bad → (v.bad ≡ None → w.out.items ≡ (v.out.items ++ separator v.next) ++ beginning o)
@@ -408,53 +335,21 @@ string_open v w f p k l n start o1 next around counted bad string sep out at h =
 -- more of it comes
 pub more_held : (v w : Notator) (f : Partial) (p : ℕ) (k : StringKind) (l : Width) (n : ℕ) (x y : List ℕ) (s : OpenString) → w.next ≡ v.next → w.around ≡ v.around → w.lates ≡ v.lates → w.bad ≡ v.bad → w.string ≡ v.string → v.string ≡ Some s
     → w.out.items ≡ v.out.items ++ content s.kind y → IsHeld v f (part p k l n x) → IsHeld w f (part p k l n (x ++ y))
-more_held v w f p k l n x y s next around same_lates bad string is out h =
-    let same : s.kind ≡ k = kind_is (sym is ∙ h.text.1) in
-    record {
-      next = next ∙ h.next;
-      around = ap (λ a. a.items) around ∙ h.around;
-      lates = λ none. ap (λ l. l.items) same_lates ∙ h.lates (sym bad ∙ none);
-      bad = subst (IsLowest (IsBadIn f)) (sym bad) h.bad;
-      text = (h.text.0, string ∙ h.text.1, out ∙ (λ i. h.text.2 i ++ content (same i) y) ∙ append_assoc h.text.0 (content k x) (content k y) ∙ ap (λ z. h.text.0 ++ z) (sym (content_more k x y)), λ none. h.text.3 (sym bad ∙ none));
-    }
-  where
-    kind_is : {s t : OpenString} → Some s ≡ Some t → s.kind ≡ t.kind
-    kind_is e = cc
-
-    content_more : (k : StringKind) (x y : List ℕ) → content k (x ++ y) ≡ content k x ++ content k y
-    content_more OfBytes x y = hex_more x y
-    content_more OfText x y = flat_map-append _ x y
+more_held v w f p k l n x y s h1 h2 h3 h4 h5 h6 h7 h8 = grind (arith, append_assoc, flat_map-append, hex_more)
 
 -- the text of a string is whole
 
 bad_string : (k : StringKind) (p q : ℕ) (l : Width) (x : List ℕ) → IsBadText (string_tree p k l x) q → (q ≡ p) × (is_good k (content k x) ≡ false)
-bad_string OfBytes p q l x h = absurd h
-bad_string OfText p q l x h = (h.0, same_utf8 x ∙ h.1)
+bad_string k p q l x h1 = grind (arith, same_utf8)
 
 shown_text : (k : StringKind) (p : ℕ) (l : Width) (x : List ℕ) → (quote k ++ content k x) ++ string_end k l (length x) ≡ shown (string_tree p k l x)
-shown_text OfBytes p l x = append_assoc (codes "h'") (encode_lower x) (codes "'" ++ indicator (mark_for l (length x)))
-shown_text OfText p l x = append_assoc (codes "\"") (content OfText x) (codes "\"" ++ indicator (mark_for l (length x)))
+shown_text k p l x = grind arith
 
 lowest_more : (P Q : ℕ → Type 0) (o : Option ℕ) (p : ℕ) → IsLowest P o → ((q : ℕ) → Q q → q ≡ p) → Q p → IsLowest (λ q. P q ⊎ Q q) (Some (lower o p))
-lowest_more P Q None p h only is = (inr is, λ q k. elim k [ inl a ↦ absurd (h q a) | inr b ↦ omega (arith, only q b) ])
-lowest_more P Q (Some m) p h only is = (which (low m p), λ q k. elim k [ inl a ↦ omega (arith, h.1 q a) | inr b ↦ omega (arith, only q b) ])
-  where
-    low : (m n : ℕ) → (min m n ≡ m) ⊎ (min m n ≡ n)
-    low m n = grind arith
-
-    which : (min m p ≡ m) ⊎ (min m p ≡ p) → P (min m p) ⊎ Q (min m p)
-    which (inl e) = inl (rw e h.0)
-    which (inr e) = inr (rw e is)
+lowest_more P Q o p h1 h2 h3 = grind arith
 
 lowest_string : (f : Partial) (k : StringKind) (p : ℕ) (l : Width) (x : List ℕ) (o : Option ℕ) (b : Bool) → is_good k (content k x) ≡ b → IsLowest (IsBadIn f) o → IsLowest (IsBadIn (put f (string_tree p k l x))) (if b then o else Some (lower o p))
-lowest_string f k p l x o true good h =
-    lowest_same (IsBadIn f) (IsBadIn (put f (string_tree p k l x))) o (bad_before f (string_tree p k l x))
-    (λ q b. elim (bad_put f (string_tree p k l x) q b) [ inl a ↦ a | inr c ↦ absurd (let d : true ≡ false = sym good ∙ (bad_string k p q l x c).1 in cc) ]) h
-lowest_string f OfBytes p l x o false good h = absurd (let d : true ≡ false = good in cc)
-lowest_string f OfText p l x o false good h =
-    let t = string_tree p OfText l x in
-    lowest_same (λ q. IsBadIn f q ⊎ IsBadText t q) (IsBadIn (put f t)) (Some (lower o p)) (λ q b. elim b [ inl a ↦ bad_before f t q a | inr c ↦ bad_last f t q c ]) (bad_put f t)
-    (lowest_more (IsBadIn f) (IsBadText t) o p h (λ q b. (bad_string OfText p q l x b).0) (refl, sym (same_utf8 x) ∙ good))
+lowest_string f k p l x o b h1 h2 = grind (arith, bad_before, bad_last, bad_put, bad_string, lowest_more, lowest_same, same_utf8)
 
 pub string_held : (v w : Notator) (f : Partial) (p : ℕ) (k : StringKind) (l : Width) (n : ℕ) (x : List ℕ) (s : OpenString) → v.string ≡ Some s → length x ≡ n → w.next ≡ after v.next → w.around ≡ v.around → w.lates ≡ v.lates
     → w.bad ≡ lowest_with v.bad s (drop s.start v.out.items) → (w.bad ≡ None → w.out.items ≡ v.out.items ++ string_end s.kind s.width s.len)

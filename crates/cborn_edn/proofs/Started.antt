@@ -1,7 +1,7 @@
 -- The places where the nodes and chunks of a text begin rise: each token has at most one of them, and tokens rise.
-use Rattle.std.specs.Prelude.{◌<◌, ◌≤◌, ◌∷◌, ◌≡◌, ◌++◌, ◌&&◌, ◌⊎◌}
-use Rattle.cborn_edn.proofs.Common.{sym, subst, ℕ, List, [], length, inl, inr, arith, AllByRecursion, Trees, Profile, Token, SpansRise, Notates, IsRising, spots_all, spans_rise, refl, ap, Bool, true, false, cond, append-nil, Width, Chunk, Tree, Uint, Nint, Entries, Mark, ArrayClose, MapClose, ParenClose, Comma, Colon, ChunkOpen, EmbedClose, Number, MeaningError, StringKind, OfBytes, OfText, integer, string_node, chunked_node, width, is_endless, is_below, argument_of, is_small, bignum, number_node, Str, said_string, chunk, starts_of_chunks, unless_bytes, spots, spots_entries, IsItem, text_piece, byte_piece, ArePieces, AreChunks, first, next, AreItems, last, before, IsContent, empty, ArePairs, last_pair, pair_before, IsFields, no_fields, IsText, nothing, ByteNode, token}
-use Rattle.cborn_edn.specs.Grammar.{number, word, simple, tag, array, map, string, chunked, embedded, piece, also, tight, loose, tight_fields, loose_fields, items}
+use Rattle.std.specs.Prelude.{◌<◌, ◌≤◌, ◌∷◌, ◌≡◌, ◌++◌, ◌⊎◌}
+use Rattle.cborn_edn.proofs.Common.{sym, subst, ℕ, List, [], length, inl, inr, arith, AllByRecursion, Trees, Profile, Token, SpansRise, Notates, IsRising, spots_all, spans_rise, refl, ap, Bool, append-nil, Chunk, Tree, Entries, Mark, ArrayClose, MapClose, ParenClose, Comma, Colon, ChunkOpen, EmbedClose, Number, MeaningError, StringKind, chunked_node, number_node, Str, said_string, chunk, starts_of_chunks, unless_bytes, spots, spots_entries, IsItem, text_piece, byte_piece, ArePieces, AreChunks, first, next, AreItems, last, before, IsContent, empty, ArePairs, last_pair, pair_before, IsFields, no_fields, IsText, token}
+use Rattle.cborn_edn.specs.Grammar.{number, word, simple, tag, array, map, string, chunked, embedded, piece, also, tight, loose, tight_fields, loose_fields}
 
 -- places of some of the tokens, in their order
 abbrev pub Among : List ℕ → List Token → Type 0
@@ -21,42 +21,20 @@ with_more : (xs : List ℕ) (ts us : List Token) → Among xs ts → Among xs (t
 with_more xs ts us h = subst (λ (w : List ℕ). Among w (ts ++ us)) (append-nil xs) (both_among xs [] ts us h (none_among us))
 
 bytes_aside : (t : Tree) (xs : List ℕ) (ts : List Token) → Among xs ts → Among (unless_bytes t xs) ts
-bytes_aside (ByteNode p w b) xs ts h = none_among ts
-bytes_aside _ xs ts h = h
+bytes_aside t xs ts h1 = grind (arith, none_among)
 
 number_among : (a : Token) (n : Bool) (v : ℕ) (m : Mark) → Among (spots (number_node a.start n v m)) (a ∷ [])
-number_among a n v m = go (is_small n v)
-  where
-    small : (b : Bool) (w : Width) → Among (spots (cond b (Nint a.start w (argument_of n v)) (Uint a.start w (argument_of n v)))) (a ∷ [])
-    small true w = inr ([], refl, refl)
-    small false w = inr ([], refl, refl)
-
-    go : (b : Bool) → Among (spots (cond b (integer a.start n v (width m (argument_of n v))) (bignum a.start n v))) (a ∷ [])
-    go true = small (is_below n v) (width m (argument_of n v))
-    go false = inr ([], refl, refl)
-
-string_alone : (k : StringKind) (p : ℕ) (w : Width) (x : List ℕ) → spots (string_node k p w x) ≡ p ∷ []
-string_alone OfBytes p w x = refl
-string_alone OfText p w x = refl
-
-empty_alone : (k : StringKind) (p : ℕ) → spots (chunked_node k p []) ≡ p ∷ []
-empty_alone OfBytes p = refl
-empty_alone OfText p = refl
+number_among a n v m = grind arith
 
 said_alone : (s : Str) → spots (said_string s) ≡ s.place ∷ []
-said_alone s = go (s.lone && is_endless s.mark)
-  where
-    go : (b : Bool) → spots (cond b (chunked_node s.kind s.place []) (string_node s.kind s.place (width s.mark (length s.bytes)) s.bytes)) ≡ s.place ∷ []
-    go true = empty_alone s.kind s.place
-    go false = string_alone s.kind s.place (width s.mark (length s.bytes)) s.bytes
+said_alone s = grind arith
 
 chunks_append : (cs : List Chunk) (c : Chunk) → starts_of_chunks (cs ++ (c ∷ [])) ≡ starts_of_chunks cs ++ (c.place ∷ [])
 chunks_append [] c = refl
 chunks_append (d ∷ cs) c = ap (λ w. d.place ∷ w) (chunks_append cs c)
 
 chunked_among : (k : StringKind) (a : Token) (cs : List Chunk) (ts : List Token) → Among (starts_of_chunks cs) ts → Among (spots (chunked_node k a.start cs)) (a ∷ ts)
-chunked_among OfBytes a cs ts h = inr (_, refl, h)
-chunked_among OfText a cs ts h = inr (_, refl, h)
+chunked_among k a cs ts h1 = grind arith
 
 module _ {p : Profile} where
   mutual
@@ -99,8 +77,7 @@ module _ {p : Profile} where
     fields_among (loose_fields {x = x} a two is) = with_more _ x (token a Comma ∷ []) (pairs_among is)
 
   pub text_among : {d : ℕ} {x : List Token} {ts : Trees} {l : List MeaningError} → IsText p d x ts l → Among (spots_all ts) x
-  text_among nothing = refl
-  text_among (items is) = items_among is
+  text_among h1 = grind (arith, items_among)
 
 abbrev AreFrom : ℕ → List ℕ → Type 0
 AreFrom n xs = AllByRecursion (λ q. n ≤ q) xs

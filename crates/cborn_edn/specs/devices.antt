@@ -4,7 +4,6 @@ pub mod Commas
 pub mod Syntax
 pub mod Machine
 pub mod Said
-pub mod Parse
 pub mod Ahead
 pub mod Noted
 pub mod Kept

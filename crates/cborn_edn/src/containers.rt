@@ -31,6 +31,7 @@ fn size_asked(mark: Mark) -> Size
 }
 
 /// Opens a map, or else an array, at the offset `here.at`.
+#[tactic(auto, using(crate::proofs::Lemmas::both_ok, crate::proofs::Lemmas::free, crate::proofs::Lemmas::no_left, crate::proofs::Lemmas::opened_read, crate::proofs::Lemmas::same_errors))]
 #[inline(always)]
 pub(crate) fn open_sized<V: Visitor>(
     is_map: bool,

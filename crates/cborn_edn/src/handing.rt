@@ -14,6 +14,7 @@ use cborn_model::Visitor;
 use std::alloc::AllocError;
 
 /// Hands an event over, if there is no meaning error since the innermost `<<`.
+#[tactic(auto, using(crate::proofs::Lemmas::silenced))]
 #[inline(always)]
 pub(crate) fn hand<V: Visitor>(
     event: Event,

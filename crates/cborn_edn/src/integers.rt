@@ -57,6 +57,7 @@ pub(crate) fn integer_at(text: &[u8], at: usize) -> Option<Integer>
 /// The integer below zero whose minus is at the offset `at` of `text`: how far it is below zero,
 /// and the offset after it. `None` if it isn't decimal, has more than 19 digits or has an
 /// indicator.
+#[tactic(auto, using(crate::proofs::Reader::Items::negative_here, crate::proofs::Common::take_rest))]
 #[inline(always)]
 pub(crate) fn negative_at(text: &[u8], at: usize) -> Option<(u64, usize)>
     requires inside { at < length text.now }

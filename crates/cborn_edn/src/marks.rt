@@ -10,6 +10,7 @@ use cborn_lex::{Mark, mark_at};
 
 /// Of the `{` or `[` at the offset `at` of `text`: whether it begins a map, its indicator, and the offset
 /// after it. `None` if no such bracket is there, or if an underscore follows it that begins no indicator.
+#[tactic(auto, using(crate::proofs::Reader::Items::opening_here, crate::proofs::Reader::Items::opening_takes, crate::proofs::Common::take_rest))]
 #[inline(always)]
 pub(crate) fn opening_at(text: &[u8], at: usize) -> Option<(bool, Mark, usize)>
     requires { at < length text.now }
@@ -25,6 +26,7 @@ pub(crate) fn opening_at(text: &[u8], at: usize) -> Option<(bool, Mark, usize)>
 }
 
 /// Whether `text` has a `{`, or else a `[`, at the offset `at`, and no indicator after it.
+#[tactic(auto, using(crate::proofs::Reader::Items::bare_opening, crate::proofs::Reader::Items::opening_takes, crate::proofs::Common::take_rest))]
 #[inline(always)]
 pub(crate) fn opens_at(is_map: bool, text: &[u8], at: usize) -> bool
     ensures within { result ≡ true → at < length text.now }
@@ -49,6 +51,7 @@ fn opening_character(is_map: bool) -> u8
 
 /// The indicator of the `>>` at the offset `at` of `text`, where a `>` is, and the offset after it.
 /// `None` if there is no second `>`, or if an underscore follows that begins no indicator.
+#[tactic(auto, using(crate::proofs::Reader::Items::embed_end_here, crate::proofs::Common::take_rest))]
 #[inline(always)]
 pub(crate) fn embed_end_at(text: &[u8], at: usize) -> Option<(Mark, usize)>
     requires inside { at < length text.now }

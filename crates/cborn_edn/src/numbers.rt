@@ -177,6 +177,7 @@ fn put_bignum<V: Visitor>(
 }
 
 /// Takes the simple value `n` of a word, which is an item.
+#[tactic(auto, using(crate::proofs::Lemmas::free, crate::proofs::Lemmas::leaf_shown, crate::proofs::Lemmas::no_left, crate::proofs::Lemmas::on_ok, crate::proofs::Lemmas::same_errors))]
 #[inline(always)]
 pub(crate) fn put_word<V: Visitor>(
     n: u8,
@@ -195,6 +196,7 @@ pub(crate) fn put_word<V: Visitor>(
 }
 
 /// Takes the number in `simple(..)`.
+#[tactic(auto, using(crate::proofs::Lemmas::leaf_shown, crate::proofs::Lemmas::silenced, crate::proofs::Lemmas::simple_noted, crate::proofs::Lemmas::free, crate::proofs::Lemmas::no_left, crate::proofs::Lemmas::on_ok))]
 #[inline(always)]
 pub(crate) fn put_simple<V: Visitor>(
     numeral: Numeral,

@@ -81,6 +81,7 @@ fn has_byte_at(c: u8, text: &[u8], at: usize) -> bool
 }
 
 /// Passes over a space, if there is one.
+#[tactic(auto, using(crate::proofs::Reader::CommonTokens::white_here))]
 #[inline(always)]
 pub(crate) fn skip_space(text: &str, here: &mut Here)
     requires { here.old.at ≤ length text.now }
@@ -95,6 +96,7 @@ pub(crate) fn skip_space(text: &str, here: &mut Here)
 }
 
 /// Takes white space, which comments are part of.
+#[tactic(auto, using(crate::proofs::Lemmas::skipped, crate::proofs::Lemmas::white_here))]
 #[inline(always)]
 pub(crate) fn take_white_space<V: Visitor>(
     source: Source,

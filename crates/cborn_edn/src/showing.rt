@@ -16,6 +16,7 @@ use std::alloc::Global;
 /// # Errors
 /// `NotUtf8` with the lowest place of a text string or a text chunk that isn't UTF-8. `OutOfMemory`
 /// if memory was refused.
+#[tactic(auto, using(crate::proofs::Lemmas::error_is, crate::proofs::Common::take_all, crate::proofs::Lemmas::fits_whole))]
 pub fn show(alloc: Global, items: &[Spelled]) -> Result<String, ShowFault>
     ensures shown { IfOk result (λ text. Shown (trees items.now) (string_bytes text)) }
     ensures refused { IfErr result (IsShowFault (trees items.now)) }

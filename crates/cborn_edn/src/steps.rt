@@ -49,6 +49,7 @@ pub(crate) fn is_piece(kind: Kind) -> bool
 }
 
 /// Takes a piece of a string, or a `<<`, which begins one.
+#[tactic(auto, using(crate::proofs::Lemmas::no_piece_taken))]
 fn take_piece<V: Visitor>(
     token: BareToken,
     number: u128,
@@ -182,6 +183,7 @@ fn after<V: Visitor>(
 
 /// Ends the pieces of a string, and takes the token after them; or ends a chunk, and takes the comma or
 /// the `)` after it.
+#[tactic(auto, using(crate::proofs::Lemmas::item_home, crate::proofs::Lemmas::chunk_home))]
 fn after_pieces<V: Visitor>(
     token: BareToken,
     number: u128,

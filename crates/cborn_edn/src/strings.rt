@@ -301,6 +301,7 @@ pub(crate) fn end_chunks<V: Visitor>(
 }
 
 /// Takes a text string at the offset `here.at` with its shortest head, which is an item.
+#[tactic(auto, using(crate::proofs::Lemmas::hands_text, crate::proofs::Lemmas::leaf_shown, crate::proofs::Lemmas::on_ok, crate::proofs::Lemmas::text_item, crate::proofs::Lemmas::text_noted))]
 #[inline(always)]
 pub(crate) fn put_text<V: Visitor>(
     content: &[u8],
@@ -319,6 +320,7 @@ pub(crate) fn put_text<V: Visitor>(
 
 /// Takes a text string as `put_text` does, whose content is the pieces from the offset `start` on, and
 /// forgets them.
+#[tactic(auto, using(crate::proofs::Lemmas::hands_text, crate::proofs::Lemmas::leaf_shown, crate::proofs::Common::take_rest, crate::proofs::Lemmas::text_item, crate::proofs::Lemmas::text_noted))]
 #[inline(always)]
 pub(crate) fn put_last_piece<V: Visitor>(
     start: usize,

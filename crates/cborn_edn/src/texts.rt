@@ -21,6 +21,7 @@ pub(crate) struct FoundText {
 
 /// The text string without escapes whose opening double quote is at the offset `at` of `text`. `None`
 /// if there is none, if it has an indicator, or if another piece may follow.
+#[tactic(auto, using(crate::proofs::Reader::Items::plain_here, crate::proofs::Common::take_rest, crate::proofs::Reader::Items::text_at))]
 #[inline(always)]
 pub(crate) fn plain_text_at(profile: Profile, text: &[u8], at: usize) -> Option<FoundText>
     requires inside { at < length text.now }

@@ -132,6 +132,7 @@ fn slashed_end(profile: Profile, text: &[u8], at: usize) -> Option<usize>
 
 /// The offset after the comment between slashes that begins at the offset `at`, however long it is.
 /// `None` if no slash closes it.
+#[tactic(auto, using(crate::proofs::Reader::CommonTokens::comment_here, crate::proofs::Common::take_rest))]
 #[inline(never)]
 fn long_end(profile: Profile, text: &[u8], at: usize) -> Option<usize>
     requires inside { at < length text.now }
@@ -146,6 +147,7 @@ fn long_end(profile: Profile, text: &[u8], at: usize) -> Option<usize>
 
 /// The offset after the comment that goes from the `#` at the offset `at` to the end of its line.
 /// `None` in profile 1, which has no such comments.
+#[tactic(auto, using(crate::proofs::Reader::CommonTokens::line_here, crate::proofs::Common::take_rest, crate::proofs::Reader::CommonTokens::last_line_here))]
 #[inline(never)]
 fn line_end(profile: Profile, text: &[u8], at: usize) -> Option<usize>
     requires inside { at < length text.now }

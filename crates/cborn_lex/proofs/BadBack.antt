@@ -1,6 +1,6 @@
 -- What fails for a reason by Bad.antt reads as bad for it by Forms.antt.
-use Rattle.std.specs.Prelude.{◌≡◌, ◌<◌, ◌≤◌, ◌^◌, ◌∷◌, ◌++◌, ◌&&◌, ◌||◌, ◌⊎◌}
-use Rattle.cborn_lex.proofs.Common.{refl, sym, ap, ◌∙◌, subst, ℕ, List, [], Bool, true, false, cond, eqb, ltb, inl, inr, Some, None, Result, Ok, Err, append-nil, arith, eqb-true, and_parts, or_parts, or_from, false_from_ne_true, leb-true, ltb-true, append_cancel_right, list_all, list_any, is_ascii_digit, is_ascii_alphabetic, is_ascii_alphanumeric, is_in_range, bytes_eq, codes, nat_le, Profile, Mark, Absent, Endless, Wide, LexReason, UnexpectedCharacter, UnclosedString, BadEscape, BadHex, BadBase64, UnknownPrefix, BadIndicator, BadNumber, NumberTooLarge, FloatLeftOut, Class, ArrayOpen, MapOpen, EmbedClose, Text, Bytes, Bad, is_white, is_word, is_numeral, is_not, begins, mark_of, marked, within, integer, number_front, word_front, is_content, is_unclosed, IsText, IsRun, IsIndicator, unknown, prefix_of, IsPrefixed, hash, digit, letter, other, start_of, ReadsFrom, Reads, IsLiteral, IsName, IsCoded, Takes, is_quote, is_start, IsWord, is_float_word, IsPrefix, IsNoInteger, Fails}
+use Rattle.std.specs.Prelude.{◌≡◌, ◌<◌, ◌≤◌, ◌^◌, ◌∷◌, ◌++◌, ◌&&◌, ◌⊎◌}
+use Rattle.cborn_lex.proofs.Common.{refl, sym, ap, ◌∙◌, subst, ℕ, List, [], Bool, true, false, cond, eqb, ltb, inl, inr, Some, None, Result, Ok, Err, append-nil, arith, eqb-true, and_parts, or_parts, or_from, false_from_ne_true, leb-true, ltb-true, append_cancel_right, list_all, is_ascii_digit, is_ascii_alphabetic, is_in_range, bytes_eq, codes, nat_le, Profile, Mark, Absent, Endless, Wide, LexReason, UnexpectedCharacter, UnclosedString, BadEscape, BadHex, BadBase64, UnknownPrefix, BadIndicator, BadNumber, NumberTooLarge, FloatLeftOut, Class, ArrayOpen, MapOpen, EmbedClose, Text, Bytes, Bad, is_word, is_numeral, is_not, begins, mark_of, marked, within, integer, number_front, word_front, is_content, is_unclosed, IsText, IsRun, IsIndicator, unknown, prefix_of, IsPrefixed, hash, digit, letter, other, start_of, ReadsFrom, Reads, IsLiteral, IsName, IsCoded, Takes, is_quote, is_start, IsWord, is_float_word, IsPrefix, IsNoInteger, Fails}
 use Rattle.cborn_model.specs.declared.heads.Width.TheVariants as width
 use Rattle.cborn_lex.specs.Good as good
 use Rattle.cborn_lex.specs.Bad as bad
@@ -37,14 +37,7 @@ starts_letter c e =
     no_digit c e = false_from_ne_true (is_ascii_digit c) (λ d. absurd (let low = leb-true c 57 (and_parts (nat_le 48 c) (nat_le c 57) d).1 in let up = high c (or_cases (is_in_range 65 90 c) (is_in_range 97 122 c) e) in omega (arith, low, up)))
 
 starts_other : (c : ℕ) → is_start c ≡ false → start_of c ≡ other
-starts_other c e =
-    let a = or_parts (is_white c || is_ascii_alphanumeric c) (list_any (λ k. eqb c k) (codes "/#[]{}(),:<>\"'-")) e in
-    let b = or_parts (is_white c) (is_ascii_alphanumeric c) a.0 in
-    let d = or_parts (is_in_range 48 57 c || is_in_range 65 90 c) (is_in_range 97 122 c) b.1 in
-    let u = or_parts (is_in_range 48 57 c) (is_in_range 65 90 c) d.0 in
-    let l = or_from (is_in_range 65 90 c) (is_in_range 97 122 c) u.1 d.1 in
-    let denied : (k : ℕ) → list_any (λ d. eqb k d) (codes "/#[]{}(),:<>\"'-") ≡ true → eqb c k ≡ false = λ k h. false_from_ne_true (eqb c k) (λ same. absurd (let t : true ≡ false = sym (subst (λ n. list_any (λ k. eqb n k) (codes "/#[]{}(),:<>\"'-") ≡ true) (sym (eqb-true c k same)) h) ∙ a.1 in cc)) in
-    rw (b.0, denied 47 refl, denied 35 refl, denied 91 refl, denied 123 refl, denied 93 refl, denied 125 refl, denied 41 refl, denied 44 refl, denied 58 refl, denied 60 refl, denied 62 refl, denied 40 refl, denied 34 refl, denied 39 refl, denied 45 refl, u.0, l) refl
+starts_other c h1 = grind (arith, eqb-true, false_from_ne_true, or_from, or_parts)
 
 -- Numbers.
 
@@ -73,16 +66,11 @@ no_integer_is n x r (bad.bad nf nl) = go (integer n x) refl
     go (Err s) e = e ∙ only s (judge n x (Err s) e)
 
 bad_front : (n tagged : Bool) (v : ℕ) → number_front n tagged None (Ok v) ≡ Bad BadIndicator
-bad_front n true v = refl
-bad_front n false v = refl
+bad_front n tagged v = grind arith
 
 -- a number ends before an indicator
 mark_ends : (m z : List ℕ) → IsIndicator m z → mark_of m ≡ None → begins is_numeral (m ++ z) ≡ false
-mark_ends [] z i e = absurd (clash e)
-  where
-    clash : Some Absent ≡ None → ⊥
-    clash e = cc
-mark_ends (c ∷ m) z i e = subst (λ k. is_numeral k ≡ false) (sym (eqb-true c 95 i.0)) refl
+mark_ends m z h1 h2 = grind arith
 
 -- The last character of a text, or d.
 abbrev last_of : ℕ → List ℕ → ℕ
@@ -249,11 +237,7 @@ module _ (p : Profile) where
   -- each reason
 
   at_quote : (P : ℕ → Type 0) (q : ℕ) → is_quote q ≡ true → P 34 → P 39 → P q
-  at_quote P q e a b = go (or_cases (eqb q 34) (eqb q 39) e)
-    where
-      go : (eqb q 34 ≡ true) ⊎ (eqb q 39 ≡ true) → P q
-      go (inl h) = subst P (sym (eqb-true q 34 h)) a
-      go (inr h) = subst P (sym (eqb-true q 39 h)) b
+  at_quote P q h1 h2 h3 = grind arith
 
   is_open : (q : ℕ) → eqb q 92 ≡ false → (y : List ℕ) → ((x z : List ℕ) → is_content q x ≡ true → y ≡ x ++ q ∷ z → ⊥) → is_unclosed q y ≡ true
   is_open q ne y denied = go ((quoted q ne).find y)

@@ -1,15 +1,11 @@
 -- A number that is a float is read as one.
-use Rattle.std.specs.Prelude.{◌≡◌, ◌^◌, ◌∷◌, ◌||◌}
-use Rattle.cborn_lex.proofs.Common.{refl, sym, subst, ℕ, List, [], Bool, true, false, not, cond, eqb, ltb, ⊎_elim, Ok, Err, eqb-true, and_parts, and_left, and_right, not-true, list_all, list_any, is_digit, bytes_eq, codes, BadNumber, NumberTooLarge, FloatLeftOut, begins, are_digits, within, has_prefix, has_any, integer, IsFloat, drop, take}
+use Rattle.std.specs.Prelude.{◌≡◌, ◌∷◌, ◌||◌}
+use Rattle.cborn_lex.proofs.Common.{arith, refl, sym, subst, ℕ, List, [], Bool, true, false, not, eqb, ⊎_elim, Err, eqb-true, and_parts, and_left, and_right, not-true, list_all, list_any, is_digit, bytes_eq, codes, BadNumber, FloatLeftOut, begins, are_digits, within, has_prefix, has_any, integer, IsFloat, drop, take}
 use Rattle.cborn_lex.specs.Bad as bad
 use Rattle.cborn_lex.proofs.GoodBack.{or_cases, never}
 
 pub no_within : (v : ℕ) → within v ≡ Err BadNumber → ⊥
-no_within v e = go (ltb v (2 ^ 128)) e
-  where
-    go : (b : Bool) → cond b (Ok v) (Err NumberTooLarge) ≡ Err BadNumber → ⊥
-    go true k = cc
-    go false k = cc
+no_within v h1 = grind arith
 
 -- one of some characters that all fail a test fails it
 one_fails : (P : ℕ → Bool) (cs : List ℕ) (c : ℕ) → list_all (λ d. not (P d)) cs ≡ true → list_any (λ d. eqb c d) cs ≡ true → P c ≡ false
@@ -26,13 +22,10 @@ no_digits : (base : ℕ) (cs x : List ℕ) → list_all (λ d. not (is_digit d b
 no_digits base cs x h e = and_right (begins (λ d. true) x) (list_all (λ d. is_digit d base) x) (some_fails (λ d. is_digit d base) cs x h e)
 
 two_of : (a b : Bool) → (a || (b || false)) ≡ true → (a || b) ≡ true
-two_of true b e = e
-two_of false true e = e
-two_of false false e = e
+two_of a b h1 = grind arith
 
 no_base : (a b c d e f : Bool) → (a || (b || (c || (d || (e || (f || false)))))) ≡ false → ((a || b) ≡ false) × ((c || d) ≡ false) × ((e || f) ≡ false)
-no_base false false false false false false h = (refl, refl, refl)
-no_base _ _ _ _ _ _ h = never (sym h)
+no_base a b c d e f h1 = grind arith
 
 infinite : (n : Bool) (x : List ℕ) → n ≡ true → has_prefix (codes "Infinity") x ≡ true → integer n x ≡ Err FloatLeftOut
 infinite n [] k e = never e

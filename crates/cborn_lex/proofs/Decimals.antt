@@ -1,6 +1,6 @@
 -- Decimal integers at the front of a text.
 use Rattle.std.specs.Prelude.{◌≡◌, ◌+◌, ◌-◌, ◌*◌, ◌<◌, ◌≤◌, ◌^◌, ◌∷◌, ◌++◌, ◌||◌, ◌⊎◌}
-use Rattle.cborn_lex.proofs.Common.{refl, sym, ap, ◌∙◌, subst, ℕ, zero, suc, List, [], length, take, drop, get_or, ne_eqb, Bool, true, false, not, eqb, Ok, inl, inr, arith, append_assoc, pow-suc, and_parts, and_from, cond-true, cond-false, lt-ltb, ltb-true, eqb-true, cases_Bool, cases_lt, false≢true, take_more, drop_more, take-append-drop, list_all-append, digit_value_digit, false_from_ne_true, leb-true, is_ascii_alphabetic, is_in_range, nat_le, list_all, is_digit, digit_value, codes, bytes_eq, is_numeral, begins, number, within, integer, has_prefix, are_digits, BeginsDecimal, Front, mark_of, number_front, IsRun, IsNumber, ReadsNumber}
+use Rattle.cborn_lex.proofs.Common.{refl, sym, ap, ◌∙◌, subst, ℕ, zero, suc, List, [], length, take, drop, get_or, ne_eqb, Bool, true, false, not, eqb, Ok, inl, inr, arith, append_assoc, pow-suc, and_parts, and_from, cond-true, lt-ltb, ltb-true, eqb-true, cases_Bool, cases_lt, false≢true, take_more, drop_more, take-append-drop, list_all-append, digit_value_digit, is_ascii_alphabetic, list_all, is_digit, digit_value, codes, bytes_eq, is_numeral, begins, number, within, integer, has_prefix, are_digits, BeginsDecimal, Front, mark_of, number_front, IsRun, IsNumber, ReadsNumber}
 use Rattle.std.proofs.lemmas.Str.Parse.{digit_from_value}
 use Rattle.cborn_lex.proofs.TwoParts.{passes, passes_at}
 
@@ -52,26 +52,14 @@ pub digit_numeral : (c d : ℕ) → c ≡ 48 + d → d ≤ 9 → is_numeral c �
 digit_numeral c d e l = passes_at is_numeral 48 10 c refl (omega (arith, e)) (omega (arith, e, l))
 
 pub letter_numeral : (c : ℕ) → is_digit c 10 ≡ false → (is_ascii_alphabetic c || eqb c 46) ≡ is_numeral c
-letter_numeral c h =
-    let no : is_in_range 48 57 c ≡ false = false_from_ne_true (is_in_range 48 57 c) (λ d.
-    let r = and_parts (nat_le 48 c) (nat_le c 57) d in
-    let low = leb-true 48 c r.0 in
-    let high = leb-true c 57 r.1 in
-    let v = digit_value_digit c (low, high) in
-    false≢true (sym h ∙ lt-ltb (digit_value c) 10 (omega (arith, v, high)))) in
-    rw no refl
+letter_numeral c h1 = grind arith
 
 pub digits_pass : (q : ℕ → Bool) (ds : List ℕ) → passes q 48 10 ≡ true → list_all (λ d. is_digit d 10) ds ≡ true → list_all q ds ≡ true
 digits_pass q [] t h = refl
 digits_pass q (c ∷ ds) t h = let hs = and_parts (is_digit c 10) (list_all (λ d. is_digit d 10) ds) h in and_from (q c) (list_all q ds) (digit_passes q c t hs.0) (digits_pass q ds t hs.1)
 
 plain_integer : (negative : Bool) (c : ℕ) (ds : List ℕ) → eqb c 48 ≡ false → list_all (λ d. is_digit d 10) (c ∷ ds) ≡ true → integer negative (c ∷ ds) ≡ within (number 10 0 (c ∷ ds))
-plain_integer negative c ds e h =
-    let hex : (has_prefix (codes "0x") (c ∷ ds) || has_prefix (codes "0X") (c ∷ ds)) ≡ false = rw e refl in
-    let octal : (has_prefix (codes "0o") (c ∷ ds) || has_prefix (codes "0O") (c ∷ ds)) ≡ false = rw e refl in
-    let binary : (has_prefix (codes "0b") (c ∷ ds) || has_prefix (codes "0B") (c ∷ ds)) ≡ false = rw e refl in
-    let all : are_digits 10 (c ∷ ds) ≡ true = h in
-    cond-false _ _ _ hex ∙ (cond-false _ _ _ octal ∙ (cond-false _ _ _ binary ∙ (cond-true _ _ _ all ∙ rw e refl)))
+plain_integer negative c ds h1 h2 = grind arith
 
 pub long_value : (negative : Bool) (len : ℕ) (body : List ℕ) → 0 < len → len ≤ length body → (get_or body 0 0 ≡ 48 → ⊥) → list_all (λ d. is_digit d 10) (take len body) ≡ true → integer negative (take len body) ≡ within (number 10 0 (take len body))
 long_value negative zero body s w z a = absurd (omega (arith, s))

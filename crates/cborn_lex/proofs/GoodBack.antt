@@ -1,6 +1,6 @@
 -- What Good.antt takes as white space, a comment or a token reads as that by Forms.antt.
-use Rattle.std.specs.Prelude.{◌≡◌, ◌-◌, ◌<◌, ◌≤◌, ◌^◌, ◌∷◌, ◌++◌, ◌&&◌, ◌||◌, ◌⊎◌}
-use Rattle.cborn_lex.proofs.Common.{refl, sym, ap, ◌∙◌, subst, ℕ, List, [], Bool, true, false, cond, eqb, ltb, inl, inr, Option, Some, None, Ok, append-nil, arith, eqb-true, and_parts, or_parts, ltb-true, ltb-false, lt-ltb, list_all, is_digit, codes, Profile, Two, Mark, Class, ArrayOpen, MapOpen, EmbedClose, Text, Bytes, TagOpen, Word, Front, WhiteSpace, Read, is_white, is_word, is_numeral, is_not, begins, mark_of, marked, are_digits, number, within, has_prefix, integer, signed, number_front, white, hash, digit, start_of, ReadsFrom, Reads, IsMark, IsLiteral, IsNumeral, IsName, IsCoded, Takes, drop}
+use Rattle.std.specs.Prelude.{◌≡◌, ◌<◌, ◌≤◌, ◌^◌, ◌∷◌, ◌++◌, ◌&&◌, ◌||◌, ◌⊎◌}
+use Rattle.cborn_lex.proofs.Common.{refl, sym, ap, ◌∙◌, subst, ℕ, List, [], Bool, true, false, eqb, inl, inr, Option, Some, None, Ok, append-nil, arith, eqb-true, and_parts, or_parts, lt-ltb, list_all, is_digit, codes, Profile, Two, Mark, Class, ArrayOpen, MapOpen, EmbedClose, Text, Bytes, TagOpen, Word, Front, WhiteSpace, Read, is_white, is_word, is_numeral, is_not, begins, mark_of, marked, are_digits, number, within, has_prefix, integer, signed, number_front, white, hash, digit, start_of, ReadsFrom, Reads, IsMark, IsLiteral, IsNumeral, IsName, IsCoded, Takes, drop}
 use Rattle.cborn_lex.specs.Good as good
 use Rattle.cborn_lex.proofs.TwoParts.{digit_starts}
 
@@ -11,32 +11,20 @@ front_of (Some k) = Read k
 -- Digits.
 
 far : (d k : ℕ) → d < k → eqb d k ≡ false
-far d k h = go (eqb d k) refl
-  where
-    go : (b : Bool) → eqb d k ≡ b → b ≡ false
-    go true e = let same = eqb-true d k e in absurd (omega (arith, h, same))
-    go false e = refl
+far d k h1 = grind arith
 
 pub and_false : (b : Bool) → (b && false) ≡ false
-and_false true = refl
-and_false false = refl
+and_false b = grind arith
 
 pub or_cases : (a b : Bool) → (a || b) ≡ true → (a ≡ true) ⊎ (b ≡ true)
-or_cases true b e = inl refl
-or_cases false b e = inr e
+or_cases a b h1 = grind arith
 
 pub never : {A : Type 0} → false ≡ true → A
 never e = absurd (let f : false ≡ true = e in cc)
 
 -- a decimal digit
 in_ten : (c : ℕ) → is_digit c 10 ≡ true → (48 ≤ c) × (c ≤ 57)
-in_ten c e = go (ltb c 48) (ltb c 58) (ltb c 65) (ltb c 91) (ltb c 97) (ltb c 123) refl refl refl refl refl refl e
-  where
-    go : (a b d f g h : Bool) → ltb c 48 ≡ a → ltb c 58 ≡ b → ltb c 65 ≡ d → ltb c 91 ≡ f → ltb c 97 ≡ g → ltb c 123 ≡ h → ltb (cond a 36 (cond b (c - 48) (cond d 36 (cond f (c - 55) (cond g 36 (cond h (c - 87) 36)))))) 10 ≡ true → (48 ≤ c) × (c ≤ 57)
-    go false true d f g h e1 e2 e3 e4 e5 e6 k = let low = ltb-false c 48 e1 in let high = ltb-true c 58 e2 in (omega (arith, low), omega (arith, high))
-    go false false false true g h e1 e2 e3 e4 e5 e6 k = let low = ltb-false c 65 e3 in let small = ltb-true (c - 55) 10 k in absurd (omega (arith, low, small))
-    go false false false false false true e1 e2 e3 e4 e5 e6 k = let low = ltb-false c 97 e5 in let small = ltb-true (c - 87) 10 k in absurd (omega (arith, low, small))
-    go _ _ _ _ _ _ e1 e2 e3 e4 e5 e6 k = never k
+in_ten c h1 = grind arith
 
 -- two characters at the front
 second : (b : ℕ) (x : List ℕ) → has_prefix (48 ∷ b ∷ []) x ≡ true → (y : List ℕ) × (x ≡ 48 ∷ b ∷ y)
@@ -82,15 +70,10 @@ abbrev pub Begins : List ℕ → Type 0
 Begins x = (first : ℕ) × (others : List ℕ) × (x ≡ first ∷ others) × (start_of first ≡ digit)
 
 prefixed : (b d : ℕ) (x : List ℕ) → (has_prefix (48 ∷ b ∷ []) x || has_prefix (48 ∷ d ∷ []) x) ≡ true → Begins x
-prefixed b d x e = go (or_cases (has_prefix (48 ∷ b ∷ []) x) (has_prefix (48 ∷ d ∷ []) x) e)
-  where
-    go : (has_prefix (48 ∷ b ∷ []) x ≡ true) ⊎ (has_prefix (48 ∷ d ∷ []) x ≡ true) → Begins x
-    go (inl f) = let s = second b x f in (48, b ∷ s.0, s.1, refl)
-    go (inr f) = let s = second d x f in (48, d ∷ s.0, s.1, refl)
+prefixed b d x h1 = grind arith
 
 decimals : (x : List ℕ) → are_digits 10 x ≡ true → Begins x
-decimals [] d = never d
-decimals (c ∷ y) d = let h = in_ten c (and_parts (is_digit c 10) (list_all (λ n. is_digit n 10) y) d).0 in (c, y, refl, digit_starts c h.0 h.1)
+decimals x h1 = grind (arith, and_parts, digit_starts, in_ten, never)
 
 pub first_digit : (x : List ℕ) (v : ℕ) → IsLiteral x v → Begins x
 first_digit x v (good.decimal y d z) = decimals y d

@@ -1,6 +1,6 @@
 -- What reads by Forms.antt as white space, a comment or a token is taken as that by Good.antt, and what reads as bad fails for that reason by Bad.antt.
 use Rattle.std.specs.Prelude.{◌≡◌, ◌<◌, ◌^◌, ◌∷◌, ◌++◌, ◌&&◌, ◌||◌}
-use Rattle.cborn_lex.proofs.Common.{refl, sym, ap, ◌∙◌, subst, ℕ, List, [], Bool, true, false, not, cond, eqb, ltb, inl, inr, Option, Some, None, Result, Ok, Err, append-nil, append_assoc, eqb-true, and_parts, and_from, or_parts, or_from, ltb-true, ltb-false, list_all, list_any, is_ascii_digit, is_ascii_alphabetic, is_ascii_alphanumeric, is_in_range, bytes_eq, codes, Profile, One, Two, Eight, Mark, Wide, LexReason, UnexpectedCharacter, UnclosedString, UnclosedComment, BadEscape, BadHex, BadBase64, UnknownPrefix, BadIndicator, BadNumber, NumberTooLarge, FloatLeftOut, Class, ArrayOpen, MapOpen, EmbedClose, ArrayClose, MapClose, ParenClose, Comma, Colon, EmbedOpen, ChunkOpen, SimpleOpen, Text, Bytes, TagOpen, Word, Front, WhiteSpace, Read, Bad, is_white, is_word, is_numeral, is_not, begins, mark_of, marked, are_digits, number, within, has_prefix, has_any, integer, signed, number_front, word_front, is_content, is_unclosed, IsText, IsHex, IsBase64, IsRun, IsIndicator, IsString, hexadecimal, base64, unknown, prefix_of, IsPrefixed, IsAfterWord, IsTag, Start, white, slash, hash, less, greater, paren, double, simple, letter, minus, digit, other, single, opening, ReadsFrom, Reads, IsMark, IsLiteral, IsNumeral, IsName, IsCoded, Takes, is_start, IsWord, IsPrefix, IsNoInteger, Fails, drop}
+use Rattle.cborn_lex.proofs.Common.{arith, refl, sym, ap, ◌∙◌, subst, ℕ, List, [], Bool, true, false, not, cond, eqb, ltb, inl, inr, Option, Some, None, Result, Ok, Err, append-nil, append_assoc, eqb-true, and_parts, and_from, or_parts, ltb-true, ltb-false, list_all, is_ascii_digit, is_ascii_alphabetic, is_in_range, bytes_eq, codes, Profile, One, Two, Eight, Mark, Wide, LexReason, UnexpectedCharacter, UnclosedString, UnclosedComment, BadEscape, BadHex, BadBase64, UnknownPrefix, BadIndicator, BadNumber, NumberTooLarge, FloatLeftOut, Class, ArrayOpen, MapOpen, EmbedClose, ArrayClose, MapClose, ParenClose, Comma, Colon, EmbedOpen, ChunkOpen, SimpleOpen, Text, Bytes, TagOpen, Word, Front, WhiteSpace, Read, Bad, is_white, is_word, is_numeral, is_not, begins, mark_of, marked, are_digits, number, within, has_prefix, has_any, integer, signed, number_front, word_front, is_content, is_unclosed, IsText, IsHex, IsBase64, IsRun, IsIndicator, IsString, hexadecimal, base64, unknown, prefix_of, IsPrefixed, IsAfterWord, IsTag, Start, white, slash, hash, less, greater, paren, double, simple, letter, minus, digit, other, single, opening, ReadsFrom, Reads, IsMark, IsLiteral, IsNumeral, IsName, IsCoded, Takes, is_start, IsWord, IsPrefix, IsNoInteger, Fails, drop}
 use Rattle.std.proofs.lemmas.Slice.Eq.{bytes_eq-Decides}
 use Rattle.cborn_lex.specs.Good as good
 use Rattle.cborn_lex.specs.Bad as bad
@@ -135,9 +135,7 @@ bad_number n x e = bad.bad (λ f. clash (integer n x) (integer n x) e (float_is 
     clash r s e f k = cc
 
 one_of : (a b t : Bool) → (a || b) ≡ t → (a || (b || false)) ≡ t
-one_of true b t e = e
-one_of false true t e = e
-one_of false false t e = e
+one_of a b t h1 = grind arith
 
 no_base : (a b c d e f : Bool) → (a || b) ≡ false → (c || d) ≡ false → (e || f) ≡ false → (a || (b || (c || (d || (e || (f || false)))))) ≡ false
 no_base a b c d e f i j k = let x = or_parts a b i in let y = or_parts c d j in let z = or_parts e f k in rw (x.0, x.1, y.0, y.1, z.0, z.1) refl
@@ -218,10 +216,7 @@ named : (p : Profile) (w z : List ℕ) (n : ℕ) (v : List ℕ) → IsName v n �
 named p w z n v i e f g = good.word w z n (subst (λ u. IsName u n) (sym (same_bytes w v e)) i) (rw (f, g) refl)
 
 unnamed : (w : List ℕ) (n : ℕ) → IsName w n → bytes_eq w (codes "false") ≡ false → bytes_eq w (codes "true") ≡ false → bytes_eq w (codes "null") ≡ false → bytes_eq w (codes "undefined") ≡ false → ⊥
-unnamed w n good.is_false h i j k = never (sym h)
-unnamed w n good.is_true h i j k = never (sym i)
-unnamed w n good.is_null h i j k = never (sym j)
-unnamed w n good.is_undefined h i j k = never (sym k)
+unnamed w n h1 h2 h3 h4 h5 = grind arith
 
 a_word : (p : Profile) (w z : List ℕ) → IsWord w z → begins (λ c. eqb c 39) z ≡ false → (bytes_eq w (codes "simple") && begins (λ c. eqb c 40) z) ≡ false → Good p w z (word_front w)
 a_word p w z word g s =
@@ -236,16 +231,13 @@ a_word p w z word g s =
     go false false false false false h i j k l = bad.word w z word g l (λ n name. unnamed w n name h i j k) s
 
 unprefixed : (w : List ℕ) (r : LexReason) → IsPrefix w r → bytes_eq w (codes "h") ≡ false → bytes_eq w (codes "b64") ≡ false → ⊥
-unprefixed w r bad.hex h i = never (sym h)
-unprefixed w r bad.base64 h i = never (sym i)
+unprefixed w r h1 h2 h3 = grind arith
 
 hex_coded : (w x b : List ℕ) → IsCoded w x b → bytes_eq w (codes "h") ≡ true → IsHex x b
-hex_coded w x b (good.hex y d is) e = is
-hex_coded w x b (good.base64 y d is) e = never e
+hex_coded w x b h1 h2 = grind arith
 
 base64_coded : (w x b : List ℕ) → IsCoded w x b → bytes_eq w (codes "b64") ≡ true → IsBase64 x b
-base64_coded w x b (good.hex y d is) e = never e
-base64_coded w x b (good.base64 y d is) e = is
+base64_coded w x b h1 h2 = grind arith
 
 -- a prefix, and a content in its alphabet up to the next quote
 coded : (p : Profile) (w t z : List ℕ) (a : Front) (Is : List ℕ → List ℕ → Type 0) (r : LexReason) → IsPrefix w r → ((x b : List ℕ) → Is x b → IsCoded w x b) → ((x b : List ℕ) → IsCoded w x b → Is x b)
@@ -268,10 +260,7 @@ prefixed p w t z a first pass h = go (bytes_eq w (codes "h")) (bytes_eq w (codes
         (subst (λ l. Fails p l UnknownPrefix) (sym (assoc w (39 ∷ []) z)) (bad.unknown w z (record { letter = first; run = record { pass = pass; ends = refl } }) (λ r i. unprefixed w r i e f)))
 
 in_either : (d u l w : Bool) → (u || l) ≡ true → (((d || u) || l) || w) ≡ true
-in_either true u l w e = refl
-in_either false true l w e = refl
-in_either false false true w e = refl
-in_either false false false w e = never e
+in_either d u l w h1 = grind arith
 
 a_letter : Case letter is_ascii_alphabetic
 a_letter p c s z a e (word, after, run, whole, h) = at p (c ∷ s) ((c ∷ word) ++ after) z a a (ap (λ y. c ∷ y) whole) refl (go after run h)
@@ -287,11 +276,7 @@ a_letter p c s z a e (word, after, run, whole, h) = at p (c ∷ s) ((c ∷ word)
         (ap (λ y. y ++ d ∷ t) (same_bytes (c ∷ word) (codes "simple") w) ∙ ap (λ x. codes "simple" ++ x ∷ t) (eqb-true d 40 q) ∙ ap (λ y. codes "simple" ++ 40 ∷ y) n) f (good.simple z)
 
 no_start : (c : ℕ) → is_white c ≡ false → is_ascii_digit c ≡ false → is_ascii_alphabetic c ≡ false → eqb c 47 ≡ false → eqb c 35 ≡ false → eqb c 91 ≡ false → eqb c 123 ≡ false → eqb c 93 ≡ false → eqb c 125 ≡ false → eqb c 41 ≡ false → eqb c 44 ≡ false → eqb c 58 ≡ false → eqb c 60 ≡ false → eqb c 62 ≡ false → eqb c 40 ≡ false → eqb c 34 ≡ false → eqb c 39 ≡ false → eqb c 45 ≡ false → is_start c ≡ false
-no_start c w d a e1 e2 e3 e4 e5 e6 e7 e8 e9 e10 e11 e12 e13 e14 e15 =
-    let l = or_parts (is_in_range 65 90 c) (is_in_range 97 122 c) a in
-    or_from (is_white c || is_ascii_alphanumeric c) (list_any (λ k. eqb c k) (codes "/#[]{}(),:<>\"'-"))
-    (or_from (is_white c) (is_ascii_alphanumeric c) w (or_from (is_in_range 48 57 c || is_in_range 65 90 c) (is_in_range 97 122 c) (or_from (is_in_range 48 57 c) (is_in_range 65 90 c) d l.0) l.1))
-    (rw (e1, e2, e3, e4, e5, e6, e7, e8, e9, e10, e11, e12, e13, e14, e15) refl)
+no_start c h1 h2 h3 h4 h5 h6 h7 h8 h9 h10 h11 h12 h13 h14 h15 h16 h17 h18 = grind arith
 
 -- LAW: what reads is taken, or fails
 pub taken : (p : Profile) (s z : List ℕ) (a : Front) → Reads p s z a → Good p s z a

@@ -1,6 +1,6 @@
 -- Letters between quotes: runs of plain ones, and escapes.
 use Rattle.std.specs.Prelude.{◌≡◌, ◌+◌, ◌-◌, ◌*◌, ◌/◌, ◌<◌, ◌≤◌, ◌^◌, ◌%◌, ◌∷◌, ◌++◌, ◌&&◌, ◌||◌, ◌⊎◌}
-use Rattle.cborn_lex.proofs.Common.{refl, sym, ap, ap₂, ◌∙◌, subst, ℕ, zero, suc, List, [], length, take, drop, get_or, map, replicate, Bool, true, false, not, cond, eqb, leb, ltb, inl, inr, Option, Some, None, arith, append-nil, append_assoc, and_parts, and_from, or_cases, eq-eqb, eqb-true, ne_eqb, cond-true, cond-false, not-true, false≢true, lt-ltb, le-leb, cases_lt, take-take, length-take, length-map, drop_more, take-append-drop, length-append, length-drop, drop-map, drop-drop, take_rest, zero-div, list_all-append, take-add, take-nil, list_all, flat_map, prefix_len, is_digit, zip2, mask_l, top, is_content, is_unclosed, is_escape, escape_code, four, are_hex, code, is_high, is_low, Letter, raw, escaped, unit, pair, written, meant, is_letter, is_plain, is_not, is_special, LettersSoFar, LettersTaken, NoText, is_raw, escape_of, code_at, low_code, paired, unit_from, encode_utf8}
+use Rattle.cborn_lex.proofs.Common.{refl, sym, ap, ap₂, ◌∙◌, subst, ℕ, zero, suc, List, [], length, take, drop, get_or, map, replicate, Bool, true, false, not, cond, eqb, leb, ltb, inl, inr, Option, Some, None, arith, append-nil, append_assoc, and_parts, and_from, or_cases, eq-eqb, eqb-true, ne_eqb, cond-true, cond-false, not-true, false≢true, lt-ltb, le-leb, cases_lt, take-take, length-take, length-map, drop_more, take-append-drop, length-append, length-drop, drop-map, drop-drop, take_rest, zero-div, list_all-append, take-add, take-nil, list_all, flat_map, prefix_len, is_digit, zip2, mask_l, top, is_content, is_unclosed, is_escape, escape_code, four, are_hex, code, is_high, is_low, Letter, raw, escaped, unit, pair, written, meant, is_letter, is_plain, is_not, is_special, LettersSoFar, LettersTaken, NoText, is_raw, escape_of, code_at, unit_from, encode_utf8}
 use Rattle.std.proofs.lemmas.Bool.Decides.{leb_tells}
 use Rattle.std.proofs.lemmas.List.Sums.{prefix_len-le-length}
 use Rattle.std.proofs.lemmas.Nat.{shr-shr, shr_high}
@@ -22,24 +22,13 @@ abbrev below : ℕ → ℕ → ℕ
 below a b = cond (ltb a b) 255 0
 
 tops : (a b c : Bool) → top 7 (bit_or (bit_or (cond a 255 0) (cond b 255 0)) (cond c 255 0)) ≡ not ((not c && not b) && not a)
-tops true true true = refl
-tops true true false = refl
-tops true false true = refl
-tops true false false = refl
-tops false true true = refl
-tops false true false = refl
-tops false false true = refl
-tops false false false = refl
+tops a b c = grind arith
 
 not_below : (a b : ℕ) → not (ltb a b) ≡ leb b a
-not_below a b = elim (leb_tells (suc a) b) [
-  | inl p ↦ elim (leb_tells b a) [ inl q ↦ absurd (omega (arith, p.1, q.1)) | inr q ↦ ap not p.0 ∙ sym q.0 ]
-  | inr p ↦ elim (leb_tells b a) [ inl q ↦ ap not p.0 ∙ sym q.0 | inr q ↦ absurd (omega (arith, p.1, q.1)) ]
-]
+not_below a b = grind arith
 
 lanes : (q : ℕ) (v : List ℕ) → map (λ c. top 7 (bit_or (bit_or (hit c q) (hit c 92)) (below c 32))) v ≡ map (is_special q) v
-lanes q [] = refl
-lanes q (c ∷ v) = ap₂ (λ b bs. b ∷ bs) (tops (eqb c q) (eqb c 92) (ltb c 32) ∙ ap (λ b. not ((b && not (eqb c 92)) && not (eqb c q))) (not_below c 32)) (lanes q v)
+lanes q v = grind arith
 
 pub marked_lanes : (width q : ℕ) (v : List ℕ) → width ≤ 64 → length v ≡ width → mask_l (map (top 7) (zip2 bit_or (zip2 bit_or (zip2 hit v (replicate width q)) (zip2 hit v (replicate width 92))) (zip2 below v (replicate width 32)))) % 2 ^ 64 ≡ mask_l (map (is_special q) v)
 marked_lanes width q v most long =
@@ -54,8 +43,7 @@ marked_lanes width q v most long =
 -- How many come before the lowest bit.
 
 first_plain : (q : ℕ) (b : Bool) (c n : ℕ) (x : List ℕ) → is_plain q c ≡ b → list_all (is_plain q) (take n x) ≡ true → list_all (is_plain q) (take (cond (not (not b)) (1 + n) 0) (c ∷ x)) ≡ true
-first_plain q false c n x e h = refl
-first_plain q true c n x e h = let one : suc n ≡ 1 + n = omega arith in subst (λ (k : ℕ). list_all (is_plain q) (take k (c ∷ x)) ≡ true) one (and_from (is_plain q c) (list_all (is_plain q) (take n x)) e h)
+first_plain q b c n x h1 h2 = grind arith
 
 all_plain : (q : ℕ) (x : List ℕ) → list_all (is_plain q) (take (prefix_len (λ c. not (is_special q c)) x) x) ≡ true
 all_plain q [] = refl
@@ -87,8 +75,7 @@ module _ (width q : ℕ) (tail : List ℕ) (at found : ℕ) (most : width ≤ 64
 -- The bits that are left of a block, once some of its letters are read.
 
 half : (b : Bool) (m : ℕ) → (cond b 1 0 + 2 * m) / 2 ^ 1 ≡ m
-half true m = let e : 1 + 2 * m ≡ m * 2 ^ 1 + 1 = omega arith in ap (λ n. n / 2 ^ 1) e ∙ shr_high m 1 1 (omega arith)
-half false m = let e : 0 + 2 * m ≡ m * 2 ^ 1 + 0 = omega arith in ap (λ n. n / 2 ^ 1) e ∙ shr_high m 1 0 (omega arith)
+half b m = grind arith
 
 bits_after : (k : ℕ) (bs : List Bool) → mask_l bs / 2 ^ k ≡ mask_l (drop k bs)
 bits_after zero bs = let e : mask_l bs ≡ mask_l bs * 2 ^ 0 + 0 = omega arith in ap (λ m. m / 2 ^ 0) e ∙ shr_high (mask_l bs) 0 0 (omega arith)
@@ -133,9 +120,7 @@ more_plain q tail at n h k = ap (list_all (is_plain q)) (take-add at n tail) ∙
 
 -- what the buffer had first, it has after two steps that each keep what they find
 pub still : (old mid new : List ℕ) → take (length old) mid ≡ old → take (length mid) new ≡ mid → take (length old) new ≡ old
-still old mid new h k =
-    let near : length old ≤ length mid = omega (arith, ap length h, length-take (length old) mid) in
-    sym (take-take (length old) (length mid) new near) ∙ ap (take (length old)) k ∙ h
+still old mid new h1 h2 = grind (arith, length-take, take-take)
 
 -- Letters so far.
 
@@ -172,8 +157,7 @@ run_more q tail old mid new at n h e s =
 
 -- LAW: a block's letters before the lowest bit that is left
 pub short_run_more : (q : ℕ) (tail old mid new : List ℕ) (from at left : ℕ) → from ≤ at → from + 64 ≤ length tail → left ≡ mask_l (map (is_special q) (take (from + 64 - at) (drop at tail))) → (left ≡ 0 → ⊥) → new ≡ mid ++ take (count_trailing_zeros 64 left) (take (length tail - at) (drop at tail)) → LettersSoFar q tail at old mid → LettersSoFar q tail (at + count_trailing_zeros 64 left) old new
-short_run_more q tail old mid new from at left h room e some w s =
-    run_more q tail old mid new at (count_trailing_zeros 64 left) (short_run q tail from at left h room e some).1 (w ∙ ap (λ x. mid ++ take (count_trailing_zeros 64 left) x) (take_rest tail at)) s
+short_run_more q tail old mid new from at left h1 h2 h3 h4 h5 h6 = grind (arith, run_more, short_run, take_rest)
 
 pub letters_end : (q : ℕ) (tail old new : List ℕ) (at : ℕ) → at < length tail → get_or tail at 0 ≡ q → LettersSoFar q tail at old new → LettersTaken q tail at old new
 letters_end q tail old new at h e s = record { within = h; inside = s.inside; quote = e; bytes = flat_map meant s.letters; is = is_text q (take at tail) (flat_map meant s.letters) (record { letters = s.letters; allowed = s.allowed; whole = s.whole; value = refl }); added = s.added }
@@ -200,8 +184,7 @@ abbrev Quote : ℕ → Type 0
 Quote q = (q ≡ 34) ⊎ (q ≡ 39)
 
 entries_are : (q : ℕ) → Quote q → entries q 0 meanings ≡ true
-entries_are q (inl e) = rw e refl
-entries_are q (inr e) = rw e refl
+entries_are q h1 = grind arith
 
 pub meant_by : (q e : ℕ) → Quote q → e < 128 → (get_or meanings e 0 ≡ 0 → ⊥) → (get_or meanings e 0 ≡ 39 → q ≡ 39) → (is_escape q e ≡ true) × (get_or meanings e 0 ≡ escape_code e)
 meant_by q e quote l n m =
@@ -218,22 +201,7 @@ meant_by q e quote l n m =
 -- One escape more.
 
 hex_plain : (q c : ℕ) → Quote q → is_digit c 16 ≡ true → is_plain q c ≡ true
-hex_plain q c quote h =
-    let above : 48 ≤ c = least in
-    and_from (leb 32 c && not (eqb c 92)) (not (eqb c q)) (and_from (leb 32 c) (not (eqb c 92)) (le-leb 32 c (omega (arith, above))) (ap not (ne_eqb c 92 (no 92 refl)))) (ap not (ne_eqb c q (no q (none q quote))))
-  where
-    no : (d : ℕ) → is_digit d 16 ≡ false → c ≡ d → ⊥
-    no d n e = false≢true (sym n ∙ subst (λ (x : ℕ). is_digit x 16 ≡ true) e h)
-
-    none : (q : ℕ) → Quote q → is_digit q 16 ≡ false
-    none q (inl e) = rw e refl
-    none q (inr e) = rw e refl
-
-    least : 48 ≤ c
-    least = elim (leb_tells 48 c) [
-      | inl p ↦ p.1
-      | inr p ↦ absurd (false≢true (sym (ap (λ v. ltb v 16) (cond-true (ltb c 48) 36 _ (lt-ltb c 48 p.1))) ∙ h))
-    ]
+hex_plain q c h1 h2 = grind (arith, and_from, cond-true, false≢true, le-leb, leb_tells, lt-ltb, ne_eqb)
 
 four_content : (q a b c d : ℕ) → Quote q → are_hex a b c d ≡ true → is_content q (four a b c d) ≡ true
 four_content q a b c d quote h =
@@ -282,8 +250,7 @@ escape_more q tail old mid new at c size quote l b e w s =
 -- Where nothing goes on.
 
 pub no_slash : (q : ℕ) → Quote q → eqb q 92 ≡ false
-no_slash q (inl e) = rw e refl
-no_slash q (inr e) = rw e refl
+no_slash q h1 = grind arith
 
 split : (i k : ℕ) (tail : List ℕ) → i < length tail → take (i + suc k) tail ≡ take i tail ++ get_or tail i 0 ∷ take k (drop (i + 1) tail)
 split i k tail h = take-add i (suc k) tail ∙ ap (λ z. take i tail ++ z) (ap (take (suc k)) (drop_more tail i 0 h))
@@ -317,30 +284,17 @@ module _ (q : ℕ) (tail old mid : List ℕ) (at : ℕ) (quote : Quote q) (s : L
 
 -- an escape that fails fails in a shorter text too
 
-low_fails : (n : ℕ) (x z : List ℕ) → paired n (low_code (x ++ z)) ≡ None → paired n (low_code x) ≡ None
-low_fails n (s ∷ u ∷ e ∷ f ∷ g ∷ h ∷ x) z k = k
-low_fails n _ z k = refl
-
-unit_chosen : (a b : Bool) (u v w : Option (ℕ × ℕ)) → (v ≡ None → u ≡ None) → cond a v w ≡ None → cond a u w ≡ None
-unit_chosen true b u v w f h = f h
-unit_chosen false b u v w f h = h
-
 unit_fails : (b : Bool) (n : ℕ) (x z : List ℕ) → unit_from (cond b (Some n) None) (x ++ z) ≡ None → unit_from (cond b (Some n) None) x ≡ None
-unit_fails true n x z h = unit_chosen (is_high n) true (paired n (low_code x)) (paired n (low_code (x ++ z))) _ (low_fails n x z) h
-unit_fails false n x z h = refl
+unit_fails b n x z h1 = grind arith
 
 units_fail : (x z : List ℕ) → unit_from (code_at (x ++ z)) (drop 4 (x ++ z)) ≡ None → unit_from (code_at x) (drop 4 x) ≡ None
-units_fail (a ∷ b ∷ c ∷ d ∷ x) z h = unit_fails (are_hex a b c d) (code a b c d) x z h
-units_fail _ z h = refl
+units_fail x z h1 = grind (arith, unit_fails)
 
 escape_chosen : (a b : Bool) (s u v : Option (ℕ × ℕ)) → (v ≡ None → u ≡ None) → cond a s (cond b v None) ≡ None → cond a s (cond b u None) ≡ None
-escape_chosen true b s u v f h = h
-escape_chosen false true s u v f h = f h
-escape_chosen false false s u v f h = refl
+escape_chosen a b s u v h1 h2 = grind arith
 
 escape_fails : (q : ℕ) (x z : List ℕ) → escape_of q (x ++ z) ≡ None → escape_of q x ≡ None
-escape_fails q [] z h = refl
-escape_fails q (e ∷ x) z h = escape_chosen (is_escape q e) (eqb e 117) (Some (escape_code e, 2)) (unit_from (code_at x) (drop 4 x)) (unit_from (code_at (x ++ z)) (drop 4 (x ++ z))) (units_fail x z) h
+escape_fails q x z h1 = grind (arith, escape_chosen, units_fail)
 
 pub none_at_escape : (q : ℕ) (tail old mid : List ℕ) (at : ℕ) → Quote q → at < length tail → get_or tail at 0 ≡ 92 → escape_of q (drop (at + 1) tail) ≡ None → LettersSoFar q tail at old mid → NoText q tail
 none_at_escape q tail old mid at quote a b f s =
@@ -348,10 +302,7 @@ none_at_escape q tail old mid at quote a b f s =
     (λ k. subst (λ (c : ℕ). NoLetters q (c ∷ take k (drop (at + 1) tail))) (sym b) (no_escape q (take k (drop (at + 1) tail)) (escape_fails q (take k (drop (at + 1) tail)) (drop k (drop (at + 1) tail)) (ap (escape_of q) (take-append-drop k (drop (at + 1) tail)) ∙ f))))
 
 pub unit_escape : (q : ℕ) (tail x : List ℕ) (at c size : ℕ) → at + 1 < length tail → get_or tail (at + 1) 0 ≡ 117 → x ≡ drop (at + 2) tail → unit_from (code_at x) (drop 4 x) ≡ Some (c, size) → escape_of q (drop (at + 1) tail) ≡ Some (c, size)
-unit_escape q tail x at c size h e f g =
-    let two : at + 1 + 1 ≡ at + 2 = omega arith in
-    let after : drop (at + 1) tail ≡ 117 ∷ x = drop_more tail (at + 1) 0 h ∙ ap (λ d. d ∷ drop (at + 1 + 1) tail) e ∙ ap (λ y. 117 ∷ y) (ap (λ n. drop n tail) two ∙ sym f) in
-    ap (escape_of q) after ∙ g
+unit_escape q tail x at c size h1 h2 h3 h4 = grind (arith, drop_more)
 
 pub plain_others : (c : ℕ) (x : List ℕ) → list_all (is_plain c) x ≡ true → list_all (is_not c) x ≡ true
 plain_others c [] e = refl

@@ -1,28 +1,20 @@
 -- Fronts in two parts: a kind, and the number or the content that goes with it.
 use Rattle.std.specs.Prelude.{◌≡◌, ◌&&◌, ◌<◌, ◌≤◌, ◌∷◌, ◌++◌, ◌+◌}
-use Rattle.cborn_lex.proofs.Common.{refl, sym, ap, ◌∙◌, subst, ℕ, zero, suc, List, [], append-nil, length, take, drop, get_or, Bool, true, false, eqb, inl, inr, Option, Some, None, Result, Ok, Err, IfOk, arith, false≢true, eq-eqb, and_right, and_parts, cases_lt, cond-false, Mark, Class, Front, Read, marked, mark_of, is_word, Profile, IsIndicator, Start, digit, start_of, ReadsFrom, Prefix, prefix_of, IsPrefixed, ReadsWord, class_of, content_of, StandsFor, front_view, FrontStandsFor}
+use Rattle.cborn_lex.proofs.Common.{refl, sym, ◌∙◌, subst, ℕ, zero, suc, List, [], append-nil, length, take, drop, get_or, Bool, true, false, eqb, inl, inr, Option, None, Result, Ok, Err, IfOk, arith, false≢true, eq-eqb, and_right, and_parts, cases_lt, cond-false, Mark, Class, Front, Read, marked, mark_of, is_word, Profile, IsIndicator, Start, digit, start_of, ReadsFrom, Prefix, prefix_of, IsPrefixed, ReadsWord, class_of, content_of, StandsFor, front_view, FrontStandsFor}
 use Rattle.cborn_lex.specs.declared.classes.Kind.{Kind}
-use Rattle.cborn_lex.specs.declared.classes.Kind.TheVariants as kinds
 use Rattle.cborn_lex.specs.declared.fronts.Front.{Front as FrontIn}
-use Rattle.cborn_lex.specs.declared.fronts.Front.TheVariants as fronts
 use Rattle.cborn_lex.specs.declared.classes.Class.TheVariants as classes
 
 nothing_in : (k : Kind) (n : ℕ) → content_of (class_of k n []) ≡ []
-nothing_in (kinds.Text m) n = refl
-nothing_in _ n = refl
+nothing_in k n = grind arith
 
 -- where nothing was appended
 pub nothing_appended : (f : FrontIn) (n : ℕ) (old new : List ℕ) → new ≡ old → FrontStandsFor f n old new (front_view n [] f)
-nothing_appended fronts.WhiteSpace n old new e = (refl, e)
-nothing_appended (fronts.Read k) n old new e = (class_of k n [], refl, record { content = []; class = refl; written = e ∙ sym (append-nil old) ∙ ap (λ x. old ++ x) (sym (nothing_in k n)) })
-nothing_appended (fronts.Bad r) n old new e = refl
+nothing_appended f n old new h1 = grind (arith, append-nil, nothing_in)
 
 -- a string
 pub string_appended : (f : FrontIn) (n : ℕ) (x old new : List ℕ) (k : Mark → Class) (m : Option Mark) → ((a : Mark) → content_of (k a) ≡ x) → front_view n x f ≡ marked k m → new ≡ old ++ x → FrontStandsFor f n old new (marked k m)
-string_appended fronts.WhiteSpace n x old new k None c e w = cc
-string_appended (fronts.Read l) n x old new k (Some a) c e w = let same : class_of l n x ≡ k a = cc in (k a, refl, record { content = x; class = sym same; written = w ∙ ap (λ y. old ++ y) (sym (c a)) })
-string_appended (fronts.Bad r) n x old new k None c e w = sym e
-string_appended _ n x old new k _ c e w = cc
+string_appended f n x old new k m h1 h2 h3 = grind arith
 
 -- an underscore and two characters of words, or more
 pub long_mark : (x : List ℕ) (n : ℕ) → 2 < length x → get_or x 0 0 ≡ 95 → is_word (get_or x 1 0) ≡ true → is_word (get_or x 2 0) ≡ true → IsIndicator (take n x) (drop n x) → None ≡ mark_of (take n x)
@@ -43,15 +35,7 @@ from_plain profile c d n m tail old f e h r = (h, (front_view m [] f, subst (λ 
 
 -- the class, where its content alone was appended
 pub same_class : (k : Kind) (n : ℕ) (old new : List ℕ) (c : Class) → old ≡ [] → StandsFor k n old new c → class_of k n new ≡ c
-same_class k n old new c e t = whole k t.content t.class
-  where
-    now : (x : List ℕ) → content_of c ≡ x → new ≡ x
-    now x h = t.written ∙ ap (λ y. y ++ content_of c) e ∙ h
-
-    whole : (k : Kind) (x : List ℕ) → c ≡ class_of k n x → class_of k n new ≡ c
-    whole (kinds.Text m) x h = ap (λ y. classes.Text y m) (now x (ap content_of h)) ∙ sym h
-    whole (kinds.Bytes q m) x h = ap (λ y. classes.Bytes q y m) (now x (ap content_of h)) ∙ sym h
-    whole _ x h = sym h
+same_class k n old new c h1 h2 = grind arith
 
 -- Digits.
 
@@ -73,8 +57,7 @@ is_digit_start digit = true
 is_digit_start _ = false
 
 digit_start : (s : Start) → is_digit_start s ≡ true → s ≡ digit
-digit_start digit e = refl
-digit_start _ e = cc
+digit_start s h1 = grind arith
 
 pub digit_starts : (c : ℕ) → 48 ≤ c → c ≤ 57 → start_of c ≡ digit
 digit_starts c h k = digit_start (start_of c) (passes_at (λ d. is_digit_start (start_of d)) 48 10 c refl h (omega (arith, k)))

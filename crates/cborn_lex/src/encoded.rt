@@ -45,6 +45,7 @@ fn hex_digits(alloc: Global, content: &[u8]) -> Result<Option<Vec<u8>>, AllocErr
 }
 
 /// Appends the bytes that digits in hexadecimal write; `false` if they write none.
+#[tactic(auto, using(crate::proofs::Contents::Hexes::appended, crate::proofs::Contents::Hexes::decoded_ok, std::proofs::lemmas::Slice::overwrites))]
 fn push_digits(digits: &[u8], out: &mut Vec<u8>) -> Result<bool, AllocError>
     ensures written { IfOk result (λ ok. ok ≡ true → (bytes : List ℕ) × (decode_of digits.now ≡ Ok bytes) × (out.new.items ≡ out.old.items ++ bytes)) }
     ensures none { IfOk result (λ ok. ok ≡ false → (bytes : List ℕ) → decode_of digits.now ≡ Ok bytes → ⊥) }

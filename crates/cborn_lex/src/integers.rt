@@ -130,6 +130,7 @@ fn integer(negative: bool, body: &[u8]) -> Result<u128, LexReason>
 
 /// Reads an integer of any form, after its minus, and gives how many bytes of `body` it takes. Out
 /// of line, so that the code of the most frequent form stays small.
+#[tactic(auto, using(crate::proofs::Decimals::digits_pass))]
 #[inline(never)]
 fn any_integer(negative: bool, body: &[u8]) -> (Result<u128, LexReason>, usize)
     ensures within { result.1 ≤ length body.now }

@@ -51,6 +51,7 @@ fn prefixed(
 
 /// Reads what the word `word` begins: a string, or the word alone. Gives its kind, or what is wrong
 /// with it, and how many bytes it takes of `after`, which follows the word.
+#[tactic(auto, using(crate::proofs::Sliced::Words::prefix_made))]
 fn after_word(
     alloc: Global,
     word: &[u8],

@@ -93,6 +93,7 @@ fn special_letters<const N: usize>(quote: u8, letters: Simd<u8, N>) -> u64
 ///
 /// # Errors
 /// `AllocError` if memory was refused.
+#[tactic(auto, using(crate::proofs::Runs::escape_within))]
 #[inline(always)]
 pub fn push_letters(
     quote: u8,

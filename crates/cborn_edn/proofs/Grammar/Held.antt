@@ -1,6 +1,6 @@
 -- What the machine holds: the tokens that it took, how deep they went, and the commas before brackets.
 use Rattle.std.specs.Prelude.{◌≡◌, ◌+◌, ◌≤◌, ◌∷◌, ◌++◌}
-use Rattle.cborn_edn.proofs.Common.{refl, ap, ◌∙◌, ℕ, suc, List, [], Option, Some, None, append_assoc, arith, max, Class, EmbedClose, ArrayClose, Token, Span, token, Piece, embedded, Pieces, Content, tokens_of_piece, tokens_of_pieces, tokens_of_content, depth_of_number, depth, depth_of_piece, depth_of_pieces, depth_of_strings_before, depth_of_row_before, depth_of_content, depth_of_pairs_before, commas, commas_of_piece, commas_of_pieces, commas_of_strings_before, commas_of_row_before, commas_of_content, commas_of_pairs_before, Stack, in_row, in_key, in_value, in_tag, Nest, at_top, in_array, in_embed, Home, as_item, as_chunk, State, wants, has, builds, wants_chunk, wants_number, has_number, with_piece, ends}
+use Rattle.cborn_edn.proofs.Common.{refl, ℕ, suc, List, [], Option, Some, None, append_assoc, arith, max, Class, Token, Span, token, Piece, Pieces, Content, tokens_of_piece, tokens_of_pieces, tokens_of_content, depth_of_number, depth, depth_of_piece, depth_of_pieces, depth_of_strings_before, depth_of_row_before, depth_of_content, depth_of_pairs_before, commas, commas_of_piece, commas_of_pieces, commas_of_strings_before, commas_of_row_before, commas_of_content, commas_of_pairs_before, Stack, in_row, in_key, in_value, in_tag, Nest, at_top, in_array, in_embed, Home, as_item, as_chunk, State, wants, has, builds, wants_chunk, wants_number, has_number, with_piece, ends, reach}
 pub use Rattle.cborn_edn.specs.devices.Machine.{tokens_before, held_stack, held_nest, held_home, held, levels, levels_nest, levels_home, open_levels, row_comma, pair_comma, comma_in, comma_at, Stack, Nest, Home, State, start, with_piece, ends, ends_loose, begin, after, after_string, more_string, begin_chunk, begin_number, after_number, step_by, step, on, run, in_row, in_key, in_value, in_tag, at_top, in_array, in_embed, as_item, as_chunk, wants, has, builds, wants_chunk, wants_number, has_number}
 
 pub run-append : (x y : List Token) (o : Option State) → run (x ++ y) o ≡ run y (run x o)
@@ -76,25 +76,19 @@ abbrev pub Grows : List Token → ℕ → ℕ → Token → State → Type 0
 Grows x d n t s = (held s ≡ x ++ (t ∷ [])) × (deep s ≡ d) × (commas_held s ≡ n)
 
 pub after-is : (o : Option State) (x y : List Token) (d e m n : ℕ) (t : Token) → x ≡ y → d ≡ e → m ≡ n → After o (Grows x d m t) → After o (Grows y e n t)
-after-is None x y d e m n t p q r g = tt
-after-is (Some s) x y d e m n t p q r g = (g.0 ∙ ap (λ l. l ++ (t ∷ [])) p, g.1 ∙ q, g.2 ∙ r)
+after-is o x y d e m n t h1 h2 h3 h4 = grind arith
 
 pub with_piece-tokens : (b : Option Pieces) (p : Piece) → tokens_of_pieces (with_piece b p) ≡ tokens_before b ++ tokens_of_piece p
-with_piece-tokens None p = refl
-with_piece-tokens (Some ps) p = refl
+with_piece-tokens b p = grind arith
 
 pub with_piece-depth : (b : Option Pieces) (p : Piece) → depth_of_pieces (with_piece b p) ≡ max (depth_before b) (depth_of_piece p)
-with_piece-depth None p = omega arith
-with_piece-depth (Some ps) p = refl
+with_piece-depth b p = grind arith
 
 pub with_piece-commas : (b : Option Pieces) (p : Piece) → commas_of_pieces (with_piece b p) ≡ commas_before b + commas_of_piece p
-with_piece-commas None p = omega arith
-with_piece-commas (Some ps) p = refl
+with_piece-commas b p = grind arith
 
-pub ends_grow : (n : Nest) (c : Content) (e : Class) (a : Span) → After (ends n c e a) (Grows (held_nest n ++ tokens_of_content c) (max (deep_nest n) (levels_nest n + depth_of_content c)) (commas_nest n + commas_of_content c) (token a e))
-ends_grow (in_array st s m) c ArrayClose a = (simp append_assoc, omega arith, refl)
-ends_grow (in_embed h b s) c (EmbedClose m) a = (ap (λ l. held_home h ++ l) (with_piece-tokens b (embedded s c a m)) ∙ simp append_assoc, omega (arith, with_piece-depth b (embedded s c a m)), omega (arith, with_piece-commas b (embedded s c a m)))
-ends_grow _ _ _ _ = tt
+pub ends_grow : (n : Nest) (c : Content) (e : Class) (a : Span) → After (ends n c e a) (Grows (held_nest n ++ tokens_of_content c) (max (max (deep_nest n) (levels_nest n + depth_of_content c)) (reach (levels_nest n) e)) (commas_nest n + commas_of_content c) (token a e))
+ends_grow n c e a = grind (arith, append_assoc, with_piece-commas, with_piece-depth, with_piece-tokens)
 
 mutual
   pub levels-deep : (st : Stack) → levels st ≤ deep_stack st

@@ -1,12 +1,10 @@
 -- Tokens have at most one tree. Within the limit they have a tree or one syntax error, never both. A larger limit and profile 2 accept all that the others do.
 use Rattle.std.specs.Prelude.{◌≡◌, ◌+◌, ◌≤◌, ◌∷◌, ◌++◌, ◌⊎◌}
-use Rattle.cborn_edn.proofs.Common.{refl, ap, ◌∙◌, sym, subst, ℕ, List, [], Option, Some, None, append_assoc, append-nil, arith, inl, inr, max, Token, Profile, token, span, Item, number, word, simple, string, row, no_item, Input, items, tokens_of_input, depth, depth_of_input, commas, commas_of_input, AllowsCount, EdnReason, UnexpectedToken, UnexpectedEnd, TooDeep, Parse, HasTree, GoesOn, StopsAt, IsSyntaxError, reach, same_Some, ProfileOne, ProfileTwo, Stack, in_row, at_top, as_item, State, wants, has, builds, start, step, run, finish, held, open_levels, levels, comma_at, IsText, Parsed}
-use Rattle.cborn_edn.specs.devices.Syntax.{nothing}
-use Rattle.cborn_edn.proofs.Grammar.Held.{run-append, run-none, deep_stack, deep, commas_stack, commas_held, After, Grows}
-use Rattle.cborn_edn.proofs.Grammar.Takes.{landed, then, whole, takes_input, finish-whole}
+use Rattle.cborn_edn.proofs.Common.{refl, ap, ◌∙◌, sym, subst, ℕ, List, [], Option, Some, None, append_assoc, append-nil, arith, inl, inr, max, Token, Profile, token, span, Input, tokens_of_input, depth_of_input, commas_of_input, AllowsCount, EdnReason, UnexpectedToken, UnexpectedEnd, TooDeep, Parse, HasTree, GoesOn, StopsAt, IsSyntaxError, reach, same_Some, ProfileOne, ProfileTwo, State, start, step, run, finish, held, open_levels, comma_at, IsText, Parsed}
+use Rattle.cborn_edn.proofs.Grammar.Held.{run-append, run-none, deep, commas_held, After, Grows}
+use Rattle.cborn_edn.proofs.Grammar.Takes.{then, whole, takes_input, finish-whole}
 use Rattle.cborn_edn.proofs.Grammar.Grows.{grows}
 use Rattle.cborn_edn.proofs.Grammar.Closes.{closes}
-use Rattle.cborn_edn.proofs.Grammar.Trailing.{parse_of, allowed_count}
 use Rattle.cborn_edn.proofs.Short.Rebuilt.{parsed, has_tree}
 
 -- what the tokens lead to
@@ -22,23 +20,11 @@ one_tree p q ts t u g h =
     let same : Some (whole t) ≡ Some (whole u) = sym (takes_all t) ∙ ap (λ l. run l (Some start)) (g.is ∙ sym h.is) ∙ takes_all u in
     same_Some _ _ (sym (finish-whole t) ∙ ap finish (same_Some _ _ same) ∙ finish-whole u)
 
-deep-landed : (st : Stack) (i : Item) → deep (landed st i) ≡ max (deep_stack st) (levels st + depth i)
-deep-landed st (string ps) = refl
-deep-landed st _ = refl
-
-commas-landed : (st : Stack) (i : Item) → commas_held (landed st i) ≡ commas_stack st + commas i
-commas-landed st (number a n v m) = omega arith
-commas-landed st (word a n) = omega arith
-commas-landed st (simple a c n v m e) = omega arith
-commas-landed st _ = refl
-
 deep-whole : (t : Input) → deep (whole t) ≡ depth_of_input t
-deep-whole nothing = omega arith
-deep-whole (items (row b i)) = omega (arith, deep-landed (in_row at_top b) i)
+deep-whole t = grind arith
 
 commas-whole : (t : Input) → commas_held (whole t) ≡ commas_of_input t
-commas-whole nothing = omega arith
-commas-whole (items (row b i)) = omega (arith, commas-landed (in_row at_top b) i)
+commas-whole t = grind arith
 
 no_some : {A : Type 0} {x : A} {B : Type 0} → None ≡ Some x → B
 no_some e = cc
@@ -62,8 +48,7 @@ pub held_by : (ts : List Token) (s : State) → Leads ts s → held s ≡ ts
 held_by ts s e = (ran ts start s e).0
 
 allows_less : (p : Profile) (m n : ℕ) → m ≤ n → AllowsCount p n → AllowsCount p m
-allows_less ProfileOne m n h a = omega (arith, a)
-allows_less ProfileTwo m n h a = tt
+allows_less p m n h1 h2 = grind arith
 
 -- tokens that lead to a state within the profile and the limit
 abbrev pub Good : Profile → ℕ → List Token → Type 0
@@ -79,12 +64,12 @@ good p limit ts (more, (us, l, h)) = led (parsed p limit (ts ++ more) us l h)
         go None e f = no_some (sym (run-none more) ∙ f)
         go (Some s) e f =
             let r = ran more s (whole t.tree) f in
-            (s, e, allows_less p _ (commas_of_input t.tree) (omega (arith, r.2, commas-whole t.tree)) (allowed_count p _ t.tree t.parse), omega (arith, r.1, deep-whole t.tree, t.shallow))
+            (s, e, allows_less p _ (commas_of_input t.tree) (omega (arith, r.2, commas-whole t.tree)) t.parse.allowed, omega (arith, r.1, deep-whole t.tree, t.shallow))
 
 pub goes_on : (p : Profile) (limit : ℕ) (ts : List Token) → Good p limit ts → GoesOn p limit ts
 goes_on p limit ts g =
     let c = closes g.0 in
-    (c.0, has_tree p limit (ts ++ c.0) c.1 (parse_of p _ c.1 (c.2 ∙ ap (λ l. l ++ c.0) (held_by ts g.0 g.1)) (allows_less p _ _ c.4 g.2)) (omega (arith, c.3, g.3)))
+    (c.0, has_tree p limit (ts ++ c.0) c.1 (record { is = c.2 ∙ ap (λ l. l ++ c.0) (held_by ts g.0 g.1); allowed = allows_less p _ _ c.4 g.2 }) (omega (arith, c.3, g.3)))
 
 abbrev pub Ended : State → Input → Type 0
 Ended s t = (tokens_of_input t ≡ held s) × (depth_of_input t ≡ deep s) × (commas_of_input t ≡ commas_held s)
@@ -94,19 +79,13 @@ IfTree None P = Unit {0}
 IfTree (Some t) P = P t
 
 pub ends_tree : (s : State) → IfTree (finish s) (Ended s)
-ends_tree (wants (in_row at_top no_item)) = (refl, omega arith, omega arith)
-ends_tree (has (in_row at_top b) i) = (refl, omega arith, omega arith)
-ends_tree (builds (as_item (in_row at_top b)) ps) = (refl, omega arith, omega arith)
-ends_tree _ = tt
+ends_tree s = grind arith
 
 has_goes : (p : Profile) (limit : ℕ) (ts : List Token) → HasTree p limit ts → GoesOn p limit ts
 has_goes p limit ts (us, l, h) = ([], (us, l, subst (λ x. IsText p limit x us l) (sym (append-nil ts)) h))
 
 pub no_tree : (p : Profile) (limit : ℕ) (ts : List Token) (s : State) → Leads ts s → finish s ≡ None → HasTree p limit ts → ⊥
-no_tree p limit ts s e f (us, l, h) =
-    let t = parsed p limit ts us l h in
-    let same : Some (whole t.tree) ≡ Some s = sym (takes_all t.tree) ∙ ap (λ l. run l (Some start)) t.parse.is ∙ e in
-    no_some (sym f ∙ ap finish (sym (same_Some _ _ same)) ∙ finish-whole t.tree)
+no_tree p limit ts s h1 h2 h3 = grind (arith, finish-whole, no_some, parsed, same_Some, takes_all, whole)
 
 pub nothing_goes : (p : Profile) (limit : ℕ) (f : List Token) (t : Token) (s : State) → Leads f s → step s t ≡ None → GoesOn p limit (f ++ (t ∷ [])) → ⊥
 nothing_goes p limit f t s e none g =
@@ -130,10 +109,7 @@ module _ (p : Profile) (limit end : ℕ) where
 
   -- LAW: not both
   pub not_both : (ts : List Token) (q : ℕ) (r : EdnReason) → HasTree p limit ts → IsSyntaxError p limit end ts q r → ⊥
-  not_both ts q UnexpectedEnd h j = j.2 h
-  not_both ts q UnexpectedToken h (f, t, s, at, never) = s.here (front_goes (f ++ (t ∷ [])) s.y (rw append_assoc (subst (GoesOn p limit) s.split (has_goes p limit ts h))))
-  not_both ts q TooDeep h (f, t, s, at, never) = s.here (front_goes (f ++ (t ∷ [])) s.y (rw append_assoc (subst (GoesOn p limit) s.split (has_goes p limit ts h))))
-  not_both ts q _ h j = absurd j
+  not_both ts q r h1 h2 = grind (arith, append_assoc, front_goes, has_goes)
 
 abbrev GoesOnAtAnyDepth : Profile → List Token → Type 0
 GoesOnAtAnyDepth p ts = (limit : ℕ) × GoesOn p limit ts
@@ -143,9 +119,7 @@ abbrev SplitsAs : (f g : List Token) (t u : Token) → Type 0
 SplitsAs f g t u = ((f ≡ g) × (t ≡ u)) ⊎ (((w : List Token) × (g ≡ f ++ (t ∷ w))) ⊎ ((w : List Token) × (f ≡ g ++ (u ∷ w))))
 
 more_split : (f g : List Token) (t u v x : Token) → v ≡ x → SplitsAs f g t u → SplitsAs (v ∷ f) (x ∷ g) t u
-more_split f g t u v x e (inl h) = inl (cc, h.1)
-more_split f g t u v x e (inr (inl h)) = inr (inl (h.0, cc))
-more_split f g t u v x e (inr (inr h)) = inr (inr (h.0, cc))
+more_split f g t u v x h1 h2 = grind arith
 
 head_same : {v x : Token} {a b : List Token} → v ∷ a ≡ x ∷ b → v ≡ x
 head_same e = cc

@@ -1,9 +1,8 @@
 -- The machine with its tests of the profile and the limit is a parser: it answers the tree, or the syntax error.
 use Rattle.std.specs.Prelude.{◌⊎◌, ◌≡◌, ◌+◌, ◌≤◌, ◌∷◌, ◌++◌, ◌<◌}
-use Rattle.cborn_edn.proofs.Common.{HasTree, EdnReason, inl, inr, refl, ap, ◌∙◌, sym, subst, ℕ, suc, List, [], Bool, true, false, Option, Some, None, append_assoc, append-nil, leb, cond, arith, zero, max, leb-true, leb-false, Token, Profile, AllowsCount, token, span, Input, depth_of_input, UnexpectedToken, TooDeep, Parse, GoesOn, IsSyntaxError, reach, ProfileOne, ProfileTwo, State, start, step, finish, held, open_levels, comma_at}
+use Rattle.cborn_edn.proofs.Common.{HasTree, EdnReason, inl, inr, refl, ap, ◌∙◌, sym, subst, ℕ, List, [], Bool, true, false, Option, Some, None, append_assoc, append-nil, leb, cond, arith, max, leb-true, leb-false, Token, Profile, AllowsCount, token, span, Input, depth_of_input, UnexpectedToken, TooDeep, Parse, GoesOn, IsSyntaxError, reach, ProfileOne, ProfileTwo, State, start, step, finish, held, open_levels, comma_at}
 use Rattle.cborn_edn.proofs.Grammar.Held.{deep, commas_held, After, Grows}
 use Rattle.cborn_edn.proofs.Grammar.Grows.{grows}
-use Rattle.cborn_edn.proofs.Grammar.Trailing.{parse_of}
 use Rattle.cborn_edn.proofs.Short.Rebuilt.{has_tree}
 use Rattle.cborn_edn.proofs.Grammar.OneTree.{Leads, Ended, IfTree, ends_tree, held_by, good, goes_on, nothing_goes, no_tree, leads_on, same_end, stops}
 -- The parser that the code is. Its tests look at the next token and at what is open alone.
@@ -16,14 +15,10 @@ Meets p limit end ts (Whole t) = Parse p ts t × (depth_of_input t ≤ limit)
 Meets p limit end ts (HasSyntaxError q r) = IsSyntaxError p limit end ts q r
 
 allows_more : (p : Profile) (m n : ℕ) → forbids p n ≡ false → AllowsCount p m → AllowsCount p (m + n)
-allows_more ProfileOne m zero f a = omega (arith, a)
-allows_more ProfileOne m (suc n) f a = absurd (let e : true ≡ false = f in cc)
-allows_more ProfileTwo m n f a = tt
+allows_more p m n h1 h2 = grind arith
 
 forbidden : (p : Profile) (m n : ℕ) → forbids p n ≡ true → AllowsCount p (m + n) → ⊥
-forbidden ProfileOne m zero f a = let e : false ≡ true = f in cc
-forbidden ProfileOne m (suc n) f a = omega (arith, a)
-forbidden ProfileTwo m n f a = let e : false ≡ true = f in cc
+forbidden p m n h1 h2 = grind arith
 
 module _ (p : Profile) (limit end : ℕ) where
   pub parse_meets : (y f : List Token) (s : State) → Leads f s → AllowsCount p (commas_held s) → deep s ≤ limit → Meets p limit end (f ++ y) (parse p limit end y s)
@@ -31,7 +26,7 @@ module _ (p : Profile) (limit end : ℕ) where
     where
       go : (o : Option Input) → finish s ≡ o → IfTree o (Ended s) → Meets p limit end (f ++ []) (at_end end o)
       go None none h = (refl, rw append-nil (goes_on p limit f ((s, e, a, d))), rw append-nil (no_tree p limit f s e none))
-      go (Some t) some h = (parse_of p _ t (h.0 ∙ held_by f s e ∙ sym (append-nil f)) (rw h.2 a), omega (arith, h.1))
+      go (Some t) some h = (record { is = h.0 ∙ held_by f s e ∙ sym (append-nil f); allowed = rw h.2 a }, omega (arith, h.1))
   parse_meets (t ∷ y) f s e a d = go (step s t) refl (grows s t.class (span t)) (λ u next b c. rw append_assoc at (parse_meets y (f ++ (t ∷ [])) u (leads_on f t s u e next) b c))
     where
       Goal : Answer → Type 0

@@ -1,6 +1,6 @@
 -- The machine takes the tokens of a tree, and then holds that tree.
 use Rattle.std.specs.Prelude.{◌≡◌, ◌∷◌, ◌++◌}
-use Rattle.cborn_edn.proofs.Common.{refl, ap, ◌∙◌, ℕ, List, Bool, Option, Some, None, append_assoc, Mark, Class, ArrayOpen, MapOpen, EmbedClose, ArrayClose, MapClose, ParenClose, Comma, Colon, EmbedOpen, ChunkOpen, TagOpen, Text, Bytes, Token, Span, token, Item, number, word, tag, simple, string, chunked, array, Piece, text, bytes, embedded, Pieces, piece, also, Strings, strings, StringsBefore, no_string, after_strings, Row, row, RowBefore, no_item, after_row, Content, loose, tight, pairs, PairsBefore, no_pair, after_pairs, Fields, loose_fields, tight_fields, Input, items, tokens_of, tokens_of_piece, tokens_of_pieces, tokens_of_strings, tokens_of_strings_before, tokens_of_row, tokens_of_row_before, tokens_of_content, tokens_of_pairs, tokens_of_pairs_before, tokens_of_fields, tokens_of_input, Stack, in_row, in_key, in_value, in_tag, Nest, at_top, in_array, in_embed, Home, as_item, as_chunk, State, wants, has, builds, wants_chunk, start, with_piece, ends, step_by, run, map_item as map}
+use Rattle.cborn_edn.proofs.Common.{arith, refl, ap, ◌∙◌, ℕ, List, Bool, Option, Some, None, append_assoc, Mark, Class, ArrayOpen, MapOpen, EmbedClose, ArrayClose, MapClose, ParenClose, Comma, Colon, EmbedOpen, ChunkOpen, TagOpen, Text, Bytes, Token, Span, token, Item, number, word, tag, simple, string, chunked, array, Piece, text, bytes, embedded, Pieces, piece, also, Strings, strings, StringsBefore, no_string, after_strings, Row, row, RowBefore, no_item, after_row, Content, loose, tight, pairs, PairsBefore, no_pair, after_pairs, Fields, loose_fields, tight_fields, Input, items, tokens_of, tokens_of_piece, tokens_of_pieces, tokens_of_strings, tokens_of_strings_before, tokens_of_row, tokens_of_row_before, tokens_of_content, tokens_of_pairs, tokens_of_pairs_before, tokens_of_fields, tokens_of_input, Stack, in_row, in_key, in_value, in_tag, Nest, at_top, in_array, in_embed, Home, as_item, as_chunk, State, wants, has, builds, wants_chunk, start, with_piece, ends, step_by, run, EndsPieces, map_item as map}
 use Rattle.cborn_edn.specs.devices.Syntax.{Pairs, nothing}
 use Rattle.cborn_edn.proofs.Grammar.Held.{after}
 pub use Rattle.cborn_edn.specs.devices.Machine.{at_home, finish}
@@ -25,22 +25,12 @@ landed_pairs st s m (pairs b k c v) = landed (in_value st s m b k c) v
 abbrev pub landed_strings : Stack → Span → Strings → State
 landed_strings st s (strings b ps) = builds (as_chunk st s b) ps
 
--- a token that may follow an item, and begins no piece of a string
-pub data Ender : Type 0 where
-  array_end map_end paren_end comma colon : Ender
-  embed_end : Mark → Ender
+-- pieces that are whole are an item
+pub ended_same : (st : Stack) (ps : Pieces) (k : Class) (a : Span) → EndsPieces k → step_by (builds (as_item st) ps) k a ≡ step_by (has st (string ps)) k a
+ended_same st ps k a h1 = grind arith
 
-abbrev pub class_of : Ender → Class
-class_of array_end = ArrayClose
-class_of map_end = MapClose
-class_of paren_end = ParenClose
-class_of comma = Comma
-class_of colon = Colon
-class_of (embed_end m) = EmbedClose m
-
-pub ended : (st : Stack) (i : Item) (e : Ender) (a : Span) → step_by (landed st i) (class_of e) a ≡ after st i (class_of e) a
-ended st (string ps) array_end a = refl
-ended st _ _ a = refl
+ended : (st : Stack) (i : Item) (k : Class) (a : Span) → EndsPieces k → step_by (landed st i) k a ≡ after st i k a
+ended st i k a h1 = grind arith
 
 -- the brackets that end a row
 pub data Close : Type 0 where
@@ -55,39 +45,28 @@ abbrev pub then : List Token → State → Option State
 then ts s = run ts (Some s)
 
 pub text_piece : (h : Home) (b : Option Pieces) (a : Span) (x : List ℕ) (m : Mark) (y : List Token) → then (token a (Text x m) ∷ y) (at_home h b) ≡ then y (builds h (with_piece b (text a x m)))
-text_piece (as_item st) None a x m y = refl
-text_piece (as_chunk st s b) None a x m y = refl
-text_piece (as_item st) (Some ps) a x m y = refl
-text_piece (as_chunk st s b) (Some ps) a x m y = refl
+text_piece h b a x m y = grind arith
 
 pub bytes_piece : (h : Home) (b : Option Pieces) (a : Span) (q : Bool) (x : List ℕ) (m : Mark) (y : List Token) → then (token a (Bytes q x m) ∷ y) (at_home h b) ≡ then y (builds h (with_piece b (bytes a q x m)))
-bytes_piece (as_item st) None a q x m y = refl
-bytes_piece (as_chunk st s b) None a q x m y = refl
-bytes_piece (as_item st) (Some ps) a q x m y = refl
-bytes_piece (as_chunk st s b) (Some ps) a q x m y = refl
+bytes_piece h b a q x m y = grind arith
 
 pub embed_opens : (h : Home) (b : Option Pieces) (a : Span) (y : List Token) → then (token a EmbedOpen ∷ y) (at_home h b) ≡ then y (wants (in_row (in_embed h b a) no_item))
-embed_opens (as_item st) None a y = refl
-embed_opens (as_chunk st s b) None a y = refl
-embed_opens (as_item st) (Some ps) a y = refl
-embed_opens (as_chunk st s b) (Some ps) a y = refl
+embed_opens h b a y = grind arith
 
 loose_closes : (n : Nest) (b : RowBefore) (e : Close) (a : Span) → step_by (wants (in_row n b)) (class_at e) a ≡ ends n (loose b) (class_at e) a
-loose_closes n b close_array a = refl
-loose_closes n b (close_embed m) a = refl
+loose_closes n b e a = grind arith
 
 tight_closes : (n : Nest) (r : Row) (e : Close) (a : Span) → step_by (landed_row n r) (class_at e) a ≡ ends n (tight r) (class_at e) a
-tight_closes n (row b i) close_array a = ended (in_row n b) i array_end a
-tight_closes n (row b i) (close_embed m) a = ended (in_row n b) i (embed_end m) a
+tight_closes n r e a = grind arith
 
 row_comma : (n : Nest) (r : Row) (c : Span) (y : List Token) → then (token c Comma ∷ y) (landed_row n r) ≡ then y (wants (in_row n (after_row r c)))
-row_comma n (row b i) c y = ap (run y) (ended (in_row n b) i comma c)
+row_comma n (row b i) c y = ap (run y) (ended (in_row n b) i Comma c tt)
 
 pairs_comma : (st : Stack) (s : Span) (m : Mark) (ps : Pairs) (c : Span) (y : List Token) → then (token c Comma ∷ y) (landed_pairs st s m ps) ≡ then y (wants (in_key st s m (after_pairs ps c)))
-pairs_comma st s m (pairs b k d v) c y = ap (run y) (ended (in_value st s m b k d) v comma c)
+pairs_comma st s m (pairs b k d v) c y = ap (run y) (ended (in_value st s m b k d) v Comma c tt)
 
 pairs_close : (st : Stack) (s : Span) (m : Mark) (ps : Pairs) (c : Span) (y : List Token) → then (token c MapClose ∷ y) (landed_pairs st s m ps) ≡ then y (has st (map s m (tight_fields ps) c))
-pairs_close st s m (pairs b k d v) c y = ap (run y) (ended (in_value st s m b k d) v map_end c)
+pairs_close st s m (pairs b k d v) c y = ap (run y) (ended (in_value st s m b k d) v MapClose c tt)
 
 strings_comma : (st : Stack) (s : Span) (ss : Strings) (c : Span) (y : List Token) → then (token c Comma ∷ y) (landed_strings st s ss) ≡ then y (wants_chunk st s (after_strings ss c))
 strings_comma st s (strings b ps) c y = refl
@@ -96,8 +75,7 @@ strings_close : (st : Stack) (s : Span) (ss : Strings) (c : Span) (y : List Toke
 strings_close st s (strings b ps) c y = refl
 
 built : (h : Home) (ps : Pieces) → Some (builds h ps) ≡ Some (at_home h (Some ps))
-built (as_item st) ps = refl
-built (as_chunk st s b) ps = refl
+built h ps = grind arith
 
 mutual
   pub takes : (i : Item) (st : Stack) (y : List Token) → then (tokens_of i ++ y) (wants st) ≡ then y (landed st i)
@@ -105,7 +83,7 @@ mutual
   takes (word a n) st y = refl
   takes (tag a n m i e) st y =
       ap (λ l. then (token a (TagOpen n m) ∷ l) (wants st)) (append_assoc (tokens_of i) _ y)
-      ∙ takes i (in_tag st a n m) (token e ParenClose ∷ y) ∙ ap (run y) (ended (in_tag st a n m) i paren_end e)
+      ∙ takes i (in_tag st a n m) (token e ParenClose ∷ y) ∙ ap (run y) (ended (in_tag st a n m) i ParenClose e tt)
   takes (simple a b n v m e) st y = refl
   takes (string ps) st y = takes_pieces ps (as_item st) y
   takes (chunked a ss e) st y =
@@ -163,7 +141,7 @@ mutual
       ap (λ l. then l (wants (in_key st s m no_pair))) (append_assoc (tokens_of_pairs_before b) _ y ∙ ap (λ l. tokens_of_pairs_before b ++ l) (append_assoc (tokens_of k) _ y))
       ∙ takes_pairs_before b st s m (tokens_of k ++ (token c Colon ∷ (tokens_of v ++ y)))
       ∙ takes k (in_key st s m b) (token c Colon ∷ (tokens_of v ++ y))
-      ∙ ap (run (tokens_of v ++ y)) (ended (in_key st s m b) k colon c)
+      ∙ ap (run (tokens_of v ++ y)) (ended (in_key st s m b) k Colon c tt)
       ∙ takes v (in_value st s m b k c) y
 
   pub takes_pairs_before : (b : PairsBefore) (st : Stack) (s : Span) (m : Mark) (y : List Token) → then (tokens_of_pairs_before b ++ y) (wants (in_key st s m no_pair)) ≡ then y (wants (in_key st s m b))
@@ -182,10 +160,7 @@ whole nothing = start
 whole (items r) = landed_row at_top r
 
 pub takes_input : (t : Input) (y : List Token) → then (tokens_of_input t ++ y) start ≡ then y (whole t)
-takes_input nothing y = refl
-takes_input (items r) y = takes_row r at_top y
+takes_input t y = grind (arith, takes_row)
 
 pub finish-whole : (t : Input) → finish (whole t) ≡ Some t
-finish-whole nothing = refl
-finish-whole (items (row b (string ps))) = refl
-finish-whole _ = refl
+finish-whole t = grind arith

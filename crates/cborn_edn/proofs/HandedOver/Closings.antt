@@ -1,8 +1,8 @@
 -- Containers that end, leaves, and heads that are handed over.
-use Rattle.std.specs.Prelude.{◌≡◌, ◌<◌, ◌^◌, ◌∷◌, ◌++◌, if◌then◌else◌}
-use Rattle.cborn_edn.proofs.Common.{refl, sym, ap, ◌∙◌, subst, ℕ, List, [], length, Bool, true, false, ltb, cond, None, append_assoc, Width, Direct, Fixed, holds, least, Tree, Items, Pairs, Trees, Entries, no_entry, entry, entries, count, count_entries, Opening, an_array, a_map, a_tag, Partial, inside, put, paired, last_key, built, ended_size, IsFree, Ends, Mark, Absent, Endless, Wide, IndicatorTooNarrow, Close, width, size, size_errors, listed_trees, trees-listed, Span, Item, tag, array, row, Content, loose, tight, pairs, Fields, loose_fields, tight_fields, Stack, in_tag, in_array, State, has, node, nodes_before, nodes_in, entries_before, entries_in, faults, faults_before, faults_in, faults_before_pairs, faults_of_fields, noted, noted_stack, content_state, fields_state, AreFew, Comes, listed_entries, size_asked, front_of, front, Hands, count-trees, count_entries-entries, map_item as map, digits_of, integer_tree, is_below, argument_of, is_small, integer, bignum, number_node, Integer, Bignum, Tag, number, wants, bignum_of}
+use Rattle.std.specs.Prelude.{◌≡◌, ◌<◌, ◌^◌, ◌∷◌, ◌++◌}
+use Rattle.cborn_edn.proofs.Common.{arith, refl, sym, ap, ◌∙◌, subst, ℕ, List, [], length, Bool, true, false, cond, None, append_assoc, Width, Tree, Pairs, Trees, Entries, no_entry, entry, entries, count, count_entries, Opening, an_array, a_map, a_tag, Partial, inside, put, paired, last_key, built, ended_size, IsFree, Ends, Mark, Close, width, size, size_errors, listed_trees, trees-listed, Span, Item, tag, array, row, Content, loose, tight, pairs, Fields, loose_fields, tight_fields, Stack, in_tag, in_array, State, has, node, nodes_in, entries_before, entries_in, faults, faults_before, faults_in, faults_before_pairs, faults_of_fields, noted, noted_stack, content_state, fields_state, AreFew, Comes, listed_entries, size_asked, front_of, front, Hands, count-trees, count_entries-entries, map_item as map, digits_of, integer_tree, is_below, argument_of, is_small, integer, bignum, number_node, Integer, Bignum, Tag, number, wants}
 use Rattle.cborn_edn.specs.devices.Events.{after}
-use Rattle.cborn_edn.proofs.Meaning.NoError.{no_left, no_right, held, tag_small}
+use Rattle.cborn_edn.proofs.Meaning.NoError.{no_left, no_right, tag_small}
 use Rattle.cborn_edn.proofs.HandedOver.Handing.{free}
 use Rattle.cborn_edn.proofs.HandedOver.Silent.{listed_snoc, listed_snoc_entry}
 
@@ -18,29 +18,17 @@ paired_count es = sym (count_entries-entries (paired (listed_entries es))) ∙ a
 
 -- the size that a head says at the end is that which the indicator asks for
 size_ended : (p : ℕ) (m : Mark) (n : ℕ) → size_errors p m n ≡ [] → ended_size (size_asked m) None n ≡ size m n
-size_ended p Absent n e = ap Fixed (go (ltb n 24) _)
-  where
-    go : (b : Bool) (w : Width) → cond b Direct (cond b Direct w) ≡ cond b Direct w
-    go true w = refl
-    go false w = refl
-size_ended p Endless n e = refl
-size_ended p (Wide w) n e = ap (λ b. Fixed (if b then w else least n)) (held (holds w n) p IndicatorTooNarrow e)
+size_ended p m n e = grind arith
 
 -- the end of a container leads from what is open to what is whole
 pub hands_close : (s u : State) (f : Partial) (o : Opening) (ts : List Tree) → front s ≡ inside f o ts → IsFree f → Ends o ts → AreFew o ts → (noted u ≡ [] → noted s ≡ []) → (noted u ≡ [] → put f (built o ts) ≡ front u) → Hands Close 0 [] s u
 hands_close s u f o ts e stood ends few less is q = (less q, subst (λ (x : Partial). Comes Close x) (sym e) (stood, ends, few), ap (after Close 0 []) e ∙ is q)
 
 pub content_around : (st : Stack) (s : Span) (m : Mark) (c : Content) → front (content_state (in_array st s m) c) ≡ inside (front_of st) (an_array s.start (size_asked m) None) (listed_trees (nodes_in c))
-content_around st s m (loose b) = refl
-content_around st s m (tight (row b i)) = ap (inside (front_of st) (an_array s.start (size_asked m) None)) (sym (listed_snoc (nodes_before b) (node i)))
+content_around st s m c = grind (arith, listed_snoc)
 
 pub hands_array_end : (st : Stack) (s a : Span) (m : Mark) (c : Content) → count (nodes_in c) < 2 ^ 64 → Hands Close 0 [] (content_state (in_array st s m) c) (has st (array s m c a))
-hands_array_end st s a m c few = hands_close (content_state (in_array st s m) c) (has st (array s m c a)) (front_of st) (an_array s.start (size_asked m) None) (listed_trees (nodes_in c)) (content_around st s m c) (free st) tt (subst (λ n. n < 2 ^ 64) (sym (listed_count (nodes_in c))) few) (less c)
-    (λ q i. put (front_of st) (Items s.start ((ap (ended_size (size_asked m) None) (listed_count (nodes_in c)) ∙ size_ended s.start m (count (nodes_in c)) (no_right (faults_in c) _ (no_right (noted_stack st) _ q))) i) (trees-listed (nodes_in c) i)))
-  where
-    less : (c : Content) → noted (has st (array s m c a)) ≡ [] → noted (content_state (in_array st s m) c) ≡ []
-    less (loose b) q = no_left _ _ (append_assoc (noted_stack st) (faults_before b) _ ∙ q)
-    less (tight (row b i)) q = append_assoc (noted_stack st) (faults_before b) (faults i) ∙ no_left _ _ (append_assoc (noted_stack st) (faults_before b ++ faults i) _ ∙ q)
+hands_array_end st s a m c h1 = grind (arith, an_array, append_assoc, array, content_around, content_state, count, ended_size, faults, faults_before, faults_in, free, front_of, hands_close, has, in_array, listed_count, listed_trees, loose, no_left, no_right, nodes_in, noted, noted_stack, put, row, size_asked, size_ended, tight, trees-listed)
 
 pub hands_map_end : (st : Stack) (s a : Span) (m : Mark) (c : Fields) → count_entries (entries_in c) < 2 ^ 64 → Hands Close 0 [] (fields_state st s m c) (has st (map s m c a))
 hands_map_end st s a m c few = hands_close (fields_state st s m c) (has st (map s m c a)) (front_of st) (a_map s.start (size_asked m) None) (listed_entries (entries_in c)) (fronts c) (free st) (tt, (paired_listed (entries_in c)).1) (subst (λ n. n < 2 ^ 64) (sym (paired_count (entries_in c))) few) (less c)
@@ -60,8 +48,7 @@ hands_tag_end st s a n m i = hands_close (has (in_tag st s n m) i) (has st (tag 
 -- Heads that are handed over, and leaves.
 
 integer_is : (p : ℕ) (b : Bool) (w : Width) (n : ℕ) → integer_tree p b w n ≡ cond b (integer_tree p true w n) (integer_tree p false w n)
-integer_is p true w n = refl
-integer_is p false w n = refl
+integer_is p b w n = grind arith
 
 -- the node of an integer of 64 bits
 small_is : (p : ℕ) (n : Bool) (v : ℕ) (m : Mark) → is_small n v ≡ true → integer_tree p (is_below n v) (width m (argument_of n v)) (argument_of n v) ≡ number_node p n v m
@@ -69,15 +56,10 @@ small_is p n v m e = integer_is p (is_below n v) (width m (argument_of n v)) (ar
 
 module _ (st : Stack) (a : Span) {place : ℕ} (p : place ≡ a.start) where
   pub hands_tag : (m : Mark) (v n : ℕ) (wide : Width) → (v < 2 ^ 64 → n ≡ v) → wide ≡ width m n → Hands (Tag wide n) place [] (wants st) (wants (in_tag st a v m))
-  hands_tag m v n wide is w q =
-      let same : n ≡ v = is (tag_small a.start m v (no_right (noted_stack st) _ q)).0 in
-      (no_left _ _ q, free st, λ i. inside (front_of st) (a_tag (p i) ((w ∙ ap (width m) same) i) (same i)) [])
+  hands_tag m v n wide h1 h2 = grind (arith, free, no_left, no_right, tag_small)
 
   pub hands_integer : (n : Bool) (v : ℕ) (m : Mark) (below : Bool) (wide : Width) (argument : ℕ) → is_small n v ≡ true → below ≡ is_below n v → argument ≡ argument_of n v → wide ≡ width m argument → Hands (Integer below wide argument) place [] (wants st) (has st (number a n v m))
   hands_integer n v m below wide argument e b f w q = (no_left _ _ q, free st, (λ i. put (front_of st) (integer_tree (p i) (b i) ((w ∙ ap (width m) f) i) (f i))) ∙ ap (put (front_of st)) (small_is a.start n v m e))
 
   pub hands_bignum : (n : Bool) (v : ℕ) (m : Mark) (below : Bool) (argument : ℕ) → is_small n v ≡ false → below ≡ is_below n v → argument ≡ argument_of n v → Hands (Bignum below) place (digits_of 256 argument) (wants st) (has st (number a n v m))
-  hands_bignum n v m below argument e b f q = (no_left _ _ q, free st, (λ i. put (front_of st) (bignum_at (p i) (b i) (f i))) ∙ ap (put (front_of st)) (sym (ap (λ b. cond b (integer a.start n v (width m (argument_of n v))) (bignum a.start n v)) e)))
-    where
-      bignum_at : ℕ → Bool → ℕ → Tree
-      bignum_at q b n = bignum_of q b (digits_of 256 n)
+  hands_bignum n v m below argument h1 h2 h3 = grind (arith, free, no_left)

@@ -1,26 +1,20 @@
 -- What is whole after an event fits its heads.
 use Rattle.std.specs.Prelude.{◌≡◌, ◌<◌, ◌^◌, ◌∷◌, ◌++◌, if◌then◌else◌}
-use Rattle.cborn_edn.proofs.Common.{refl, sym, subst, ℕ, List, [], length, Bool, true, false, Some, None, arith, AreBytes, Width, Fixed, StringKind, OfBytes, OfText, WidthFits, holds, least, Tree, Uint, Nint, Simple, trees, entries, Fits, FitsAll, FitsEntries, ChunksFit, Opening, an_array, a_map, a_tag, in_chunks, Partial, top, inside, put, paired, last_of, chunks_of, chunks_tree, built, AreStrings, Ends, Event, Integer, Bignum, Map, Tag, String, NoChunks, Close, OpeningFits, FitsSoFar, AreFew, Comes, ByteNode as Bytes, TextNode as Text, EndlessMark as Endless, least_holds, count-trees, count_entries-entries, SimpleValue, FirstChunk, EventFits, ap, ◌∙◌, not, Option, and_parts, ltb-true, is_simple_value, Mark, MeaningError, IndicatorNotAllowed, BadSimple, is_absent, is_below, is_small, is_simple, argument_of, width, unless, width_errors, number_errors, tag_errors, simple_errors, first_error, is_none, Notes, IsTrue}
-use Rattle.cborn_edn.specs.declared.events.Event.TheVariants.{Array}
+use Rattle.cborn_edn.proofs.Common.{sym, ℕ, List, [], length, Bool, true, Some, None, arith, AreBytes, Width, StringKind, OfBytes, OfText, WidthFits, holds, least, Tree, trees, entries, Fits, FitsAll, FitsEntries, ChunksFit, Opening, Partial, put, paired, chunks_of, chunks_tree, built, AreStrings, Ends, Event, OpeningFits, FitsSoFar, AreFew, Comes, ByteNode as Bytes, TextNode as Text, least_holds, count-trees, count_entries-entries, EventFits, ap, ◌∙◌, Option, and_parts, ltb-true, is_simple_value, Mark, MeaningError, is_small, argument_of, width, number_errors, tag_errors, simple_errors, first_error, is_none, Notes, IsTrue}
 use Rattle.cborn_edn.specs.devices.Events.{after}
-use Rattle.cborn_edn.proofs.Meaning.NoError.{holds_is, no_left, no_right, nil_is, held, width_fits, tag_small}
+use Rattle.cborn_edn.proofs.Meaning.NoError.{no_left, no_right, nil_is, width_fits, tag_small}
 use Rattle.std.proofs.lemmas.Bool.Decides.{nat_tests}
 use Rattle.cborn_edn.proofs.Meaning.Earliest.{none_first}
 
-fits_more : (ts : List Tree) (t : Tree) → FitsAll (trees ts) → Fits t → FitsAll (trees (ts ++ (t ∷ [])))
-fits_more [] t h k = (k, tt)
-fits_more (u ∷ ts) t h k = (h.0, fits_more ts t h.1 k)
+pub fits_last : (ts : List Tree) (t : Tree) → FitsAll (trees ts) → Fits t → FitsAll (trees (ts ++ (t ∷ [])))
+fits_last [] t h k = (k, tt)
+fits_last (u ∷ ts) t h k = (h.0, fits_last ts t h.1 k)
 
 fits_put : (f : Partial) (t : Tree) → FitsSoFar f → Fits t → FitsSoFar (put f t)
-fits_put (top ts) t h k = fits_more ts t h k
-fits_put (inside f o ts) t h k = (h.0, h.1, fits_more ts t h.2 k)
+fits_put f t h1 h2 = grind (arith, fits_last)
 
 ended_fits : (w : Width) (k : ℕ) → k < 2 ^ 64 → WidthFits (if holds w k then w else least k) k
-ended_fits w k few = go (holds w k) (λ e. holds_is w k e)
-  where
-    go : (b : Bool) → (b ≡ true → WidthFits w k) → WidthFits (if b then w else least k) k
-    go true h = h refl
-    go false h = least_holds k few
+ended_fits w k h1 = grind arith
 
 paired_fit : (ts : List Tree) → FitsAll (trees ts) → FitsEntries (entries (paired ts))
 paired_fit [] h = tt
@@ -35,37 +29,14 @@ chunks_fit OfBytes (_ ∷ ts) s h = absurd s.0
 chunks_fit OfText (_ ∷ ts) s h = absurd s.0
 
 chunked_fits : (p : ℕ) (k : StringKind) (ts : List Tree) → AreStrings k ts → FitsAll (trees ts) → Fits (chunks_tree p k (chunks_of ts))
-chunked_fits p OfBytes ts s h = chunks_fit OfBytes ts s h
-chunked_fits p OfText ts s h = chunks_fit OfText ts s h
+chunked_fits p k ts h1 h2 = grind (arith, chunks_fit)
 
 built_fits : (o : Opening) (ts : List Tree) → Ends o ts → AreFew o ts → OpeningFits o → FitsAll (trees ts) → Fits (built o ts)
-built_fits (an_array p (Fixed w) None) ts e few h k = (subst (λ n. WidthFits (if holds w (length ts) then w else least (length ts)) n) (sym (count-trees ts)) (ended_fits w (length ts) few), k)
-built_fits (an_array p Endless None) ts e few h k = (tt, k)
-built_fits (an_array p s (Some n)) ts e few h k = absurd h
-built_fits (a_map p (Fixed w) None) ts e few h k = (subst (λ n. WidthFits (if holds w (length (paired ts)) then w else least (length (paired ts))) n) (sym (count_entries-entries (paired ts))) (ended_fits w (length (paired ts)) few), paired_fit ts k)
-built_fits (a_map p Endless None) ts e few h k = (tt, paired_fit ts k)
-built_fits (a_map p s (Some n)) ts e few h k = absurd h
-built_fits (a_tag p w n) ts (t, e) few h k = (h, subst (λ l. Fits (last_of l)) (sym e) (subst (λ l. FitsAll (trees l)) e k).0)
-built_fits (in_chunks p k) ts e few h all = chunked_fits p k ts e all
+built_fits o ts h1 h2 h3 h4 = grind (arith, chunked_fits, count-trees, count_entries-entries, ended_fits, paired_fit)
 
 -- LAW: what is whole after an event fits
 pub fits_after : (event : Event) (p : ℕ) (x : List ℕ) (f : Partial) → EventFits event x → AreBytes x → length x < 2 ^ 64 → Comes event f → FitsSoFar f → FitsSoFar (after event p x f)
-fits_after (Integer false w n) p x f fit are short c h = fits_put f (Uint p w n) h fit
-fits_after (Integer true w n) p x f fit are short c h = fits_put f (Nint p w n) h fit
-fits_after (Bignum false) p x f fit are short c h = fits_put f _ h (omega arith, (least_holds (length x) short, are))
-fits_after (Bignum true) p x f fit are short c h = fits_put f _ h (omega arith, (least_holds (length x) short, are))
-fits_after (SimpleValue n) p x f fit are short c h = fits_put f (Simple p n) h fit
-fits_after (Array s) p x f fit are short c h = (h, tt, tt)
-fits_after (Map s) p x f fit are short c h = (h, tt, tt)
-fits_after (Tag w n) p x f fit are short c h = (h, fit, tt)
-fits_after (String OfBytes w) p x f fit are short c h = fits_put f (Bytes p w x) h (fit, are)
-fits_after (String OfText w) p x f fit are short c h = fits_put f (Text p w x) h (fit, are)
-fits_after (FirstChunk q OfBytes w) p x f fit are short c h = (h, tt, ((fit, are), tt))
-fits_after (FirstChunk q OfText w) p x f fit are short c h = (h, tt, ((fit, are), tt))
-fits_after (NoChunks OfBytes) p x f fit are short c h = fits_put f (chunks_tree p OfBytes []) h tt
-fits_after (NoChunks OfText) p x f fit are short c h = fits_put f (chunks_tree p OfText []) h tt
-fits_after Close p x (top ts) fit are short c h = absurd c
-fits_after Close p x (inside f o ts) fit are short c h = fits_put f (built o ts) h.0 (built_fits o ts c.1 c.2 h.1 h.2)
+fits_after event p x f h1 h2 h3 h4 h5 = grind (arith, built_fits, fits_put, least_holds)
 
 -- What fits its width, since it is handed over only without a meaning error.
 
@@ -74,8 +45,7 @@ first_of None = []
 first_of (Some s) = s ∷ []
 
 is_first : (o : Option MeaningError) → o ≡ first_error (first_of o)
-is_first None = refl
-is_first (Some s) = refl
+is_first o = grind arith
 
 -- there is none, if the first is none
 pub none_shown : (new : Option MeaningError) (l : List MeaningError) → is_none new ≡ true → new ≡ first_error l → l ≡ []
@@ -90,18 +60,10 @@ module _ (old new : Option MeaningError) (none : is_none new ≡ true) where
   none_new l noted = no_right (first_of old) l (none_after (first_of old) l (is_first old) noted)
 
   pub number_fits : (p : ℕ) (b : Bool) (n : ℕ) (m : Mark) → is_small b n ≡ true → Notes old new (number_errors p b n m) → WidthFits (width m (argument_of b n)) (argument_of b n)
-  number_fits p b n m e noted =
-      let l : width_errors p m (argument_of b n) ≡ [] = sym (ap (λ t. if t then width_errors p m (argument_of b n) else unless (is_absent m) p IndicatorNotAllowed) e) ∙ none_new (number_errors p b n m) noted in
-      width_fits p m (argument_of b n) (ltb-true (argument_of b n) (2 ^ 64) e) l
+  number_fits p b n m h1 h2 = grind (arith, ltb-true, none_new, width_fits)
 
   pub tag_fits : (p : ℕ) (m : Mark) (n : ℕ) → Notes old new (tag_errors p m n) → (n < 2 ^ 64) × WidthFits (width m n) n
   tag_fits p m n noted = let t = tag_small p m n (none_new (tag_errors p m n) noted) in (t.0, width_fits p m n t.0 t.1)
 
   pub simple_fits : (p q : ℕ) (b : Bool) (n : ℕ) (m : Mark) → Notes old new (simple_errors p q b n m) → IsTrue (is_simple_value n) × (n < 256)
-  simple_fits p q b n m noted =
-      let good : is_simple b n ≡ true = held (is_simple b n) p BadSimple (no_left _ _ (none_new (simple_errors p q b n m) noted)) in
-      let is : is_simple_value n ≡ true = (and_parts (not (is_below b n)) (is_simple_value n) good).1 in
-      (is, simple_small n is)
-    where
-      simple_small : (n : ℕ) → is_simple_value n ≡ true → n < 256
-      simple_small n e = grind (arith, nat_tests)
+  simple_fits p q b n m h1 = grind (arith, and_parts, nat_tests, no_left, none_new)

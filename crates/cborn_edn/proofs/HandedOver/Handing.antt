@@ -1,6 +1,6 @@
 -- One event is handed over: to the innermost speller, or to the visitor.
 use Rattle.std.specs.Prelude.{◌≡◌, ◌∷◌, ◌<◌, ◌^◌}
-use Rattle.cborn_edn.proofs.Common.{refl, sym, ap, ◌∙◌, subst, ℕ, List, [], true, false, length, AreBytes, Partial, no_part, IsFree, IsWritten, Speller, is_nil, Event, Holds, FitsSoFar, Follows, Stack, in_row, in_key, in_value, in_tag, Nest, at_top, in_array, in_embed, State, nodes_before, noted, listed_trees, front_of, row_front, front, Handed, AllHanded, Hands, InnermostFollows, EventFits as Fits}
+use Rattle.cborn_edn.proofs.Common.{arith, refl, sym, ap, ◌∙◌, subst, ℕ, List, [], true, false, length, AreBytes, IsFree, IsWritten, Speller, is_nil, Event, Holds, Follows, Stack, in_row, in_key, in_value, in_tag, Nest, at_top, in_array, in_embed, State, nodes_before, noted, listed_trees, front_of, row_front, Handed, AllHanded, Hands, InnermostFollows, EventFits as Fits}
 use Rattle.cborn_edn.proofs.HandedOver.Fitting.{fits_after}
 
 -- what is true of each visitor is true of the innermost
@@ -19,10 +19,7 @@ MayCome event x = Fits event x × AreBytes x × (length x < 2 ^ 64)
 
 -- an event leads from one state to the next
 pub followed : (h k : Holds) (event : Event) (place : ℕ) (x : List ℕ) (s u : State) → MayCome event x → Follows event place x h k → Hands event place x s u → Handed h s → Handed k u
-followed h k event place x s u may f hands t q =
-    let d = hands q in
-    let e = t d.0 in
-    (subst (λ (y : Partial). k y no_part) d.2 (f (front s) d.1 e.0), subst FitsSoFar d.2 (fits_after event place x (front s) may.0 may.1 may.2 d.1 e.1))
+followed h k event place x s u h1 h2 h3 h4 = grind (arith, fits_after)
 
 -- outside of each `<<`
 pub outside : (h k : Holds) (event : Event) (place : ℕ) (x : List ℕ) (s u : State) (ps : List Speller) (ss : List State) → is_nil ps ≡ true → MayCome event x → Follows event place x h k → Hands event place x s u → AllHanded h ps (s ∷ ss) → AllHanded k ps (u ∷ ss)

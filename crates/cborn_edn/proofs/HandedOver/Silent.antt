@@ -1,6 +1,6 @@
 -- Tokens that hand nothing over.
 use Rattle.std.specs.Prelude.{◌≡◌, ◌∷◌, ◌++◌}
-use Rattle.cborn_edn.proofs.Common.{refl, sym, ap, ◌∙◌, subst, ℕ, Bool, List, [], Option, Some, None, append_assoc, Tree, Trees, more, Entries, no_entry, entry, a_map, Partial, inside, no_part, put, Speller, Mark, Span, Item, simple, Piece, embedded, Pieces, piece, also, no_string, row, RowBefore, after_row, Content, loose, tight, pairs, PairsBefore, after_pairs, Stack, in_row, in_key, in_value, Nest, at_top, in_array, in_embed, Home, as_item, as_chunk, State, wants, has, builds, wants_chunk, wants_number, has_number, at_home, with_piece, node, faults_of_pieces, snoc, snoc_entry, nodes_before, entries_before, noted, noted_home, stack_of, stack_in, content_state, listed_trees, Holds, FitsSoFar, listed_entries, states_around, states_around_home, size_asked, front_of, row_front, front, Handed, AllHanded, no_node}
+use Rattle.cborn_edn.proofs.Common.{arith, refl, sym, ap, ◌∙◌, subst, ℕ, Bool, List, [], Option, append_assoc, Tree, Trees, more, Entries, no_entry, entry, Partial, no_part, put, Speller, Mark, Span, Item, simple, Piece, embedded, Pieces, also, no_string, row, RowBefore, after_row, Content, pairs, PairsBefore, after_pairs, Stack, in_row, in_key, in_value, Nest, at_top, in_array, in_embed, Home, State, wants, has, builds, wants_chunk, wants_number, has_number, at_home, with_piece, faults_of_pieces, snoc, snoc_entry, noted, noted_home, stack_of, stack_in, content_state, listed_trees, Holds, FitsSoFar, listed_entries, states_around, states_around_home, row_front, front, Handed, AllHanded, no_node}
 use Rattle.cborn_edn.proofs.Meaning.NoError.{no_left}
 use Rattle.cborn_edn.proofs.HandedOver.Handing.{stays}
 
@@ -22,14 +22,10 @@ row_put (in_array st s m) ts t = refl
 row_put (in_embed home o s) ts t = refl
 
 pub handed_comma : (h : Holds) (n : Nest) (b : RowBefore) (i : Item) (a : Span) → Handed h (has (in_row n b) i) → Handed h (wants (in_row n (after_row (row b i) a)))
-handed_comma h n b i a = handed_same h (has (in_row n b) i) (wants (in_row n (after_row (row b i) a)))
-    (row_put n (listed_trees (nodes_before b)) (node i) ∙ ap (row_front n) (sym (listed_snoc (nodes_before b) (node i))))
-    (λ q. simp append_assoc q)
+handed_comma h n b i a h1 = grind (arith, append_assoc, handed_same, listed_snoc, row_put)
 
 pub handed_pairs_comma : (h : Holds) (st : Stack) (s : Span) (m : Mark) (b : PairsBefore) (k : Item) (c : Span) (v : Item) (a : Span) → Handed h (has (in_value st s m b k c) v) → Handed h (wants (in_key st s m (after_pairs (pairs b k c v) a)))
-handed_pairs_comma h st s m b k c v a = handed_same h (has (in_value st s m b k c) v) (wants (in_key st s m (after_pairs (pairs b k c v) a)))
-    (ap (inside (front_of st) (a_map s.start (size_asked m) None)) (sym (listed_snoc_entry (entries_before b) (node k) (node v))))
-    (λ q. simp append_assoc q)
+handed_pairs_comma h st s m b k c v a h1 = grind (arith, append_assoc, handed_same, listed_snoc_entry)
 
 pub handed_open_simple : (h : Holds) (st : Stack) (a : Span) → Handed h (wants st) → Handed h (wants_number st a)
 handed_open_simple h st a = handed_same h (wants st) (wants_number st a) refl (λ q. q)
@@ -45,22 +41,15 @@ handed_join h home ps p = handed_same h (builds home ps) (builds home (also ps p
 
 -- one more piece of a string, which may be the first
 handed_piece : (h : Holds) (ps : List Speller) (home : Home) (o : Option Pieces) (p : Piece) → AllHanded h ps (at_home home o ∷ states_around_home home) → AllHanded h ps (builds home (with_piece o p) ∷ states_around (stack_of home))
-handed_piece h ps (as_item st) None p t = stays h ps _ _ (states_around st) (λ k. handed_same k (wants st) (builds (as_item st) (piece p)) refl (no_left _ _)) t
-handed_piece h ps (as_chunk st s b) None p t = stays h ps _ _ (states_around st) (λ k. handed_same k (wants_chunk st s b) (builds (as_chunk st s b) (piece p)) refl (no_left _ _)) t
-handed_piece h ps (as_item st) (Some xs) p t = stays h ps _ _ (states_around st) (λ k. handed_join k (as_item st) xs p) t
-handed_piece h ps (as_chunk st s b) (Some xs) p t = stays h ps _ _ (states_around st) (λ k. handed_join k (as_chunk st s b) xs p) t
+handed_piece h ps home o p h1 = grind (arith, handed_join, handed_same, no_left, stays)
 
 -- the states around a string
 pub around_string : (home : Home) (o : Option Pieces) → states_around (stack_in (at_home home o)) ≡ states_around_home home
-around_string (as_item st) None = refl
-around_string (as_item st) (Some ps) = refl
-around_string (as_chunk st s b) None = refl
-around_string (as_chunk st s b) (Some ps) = refl
+around_string home o = grind arith
 
 pub piece_handed : (h : Holds) (ps qs : List Speller) (home : Home) (o : Option Pieces) (p : Piece) → qs ≡ ps → AllHanded h ps (at_home home o ∷ states_around (stack_in (at_home home o))) → AllHanded h qs (builds home (with_piece o p) ∷ states_around (stack_of home))
 piece_handed h ps qs home o p e t = subst (λ (l : List Speller). AllHanded h l (builds home (with_piece o p) ∷ states_around (stack_of home))) (sym e) (handed_piece h ps home o p (subst (λ (ss : List State). AllHanded h ps (at_home home o ∷ ss)) (around_string home o) t))
 
 -- a `<<` ends, and its string goes on around it
 pub embed_closed : (h : Holds) (p : Speller) (ps : List Speller) (home : Home) (o : Option Pieces) (s : Span) (c : Content) (a : Span) (m : Mark) → AllHanded h (p ∷ ps) (content_state (in_embed home o s) c ∷ states_around (stack_in (content_state (in_embed home o s) c))) → AllHanded h ps (builds home (with_piece o (embedded s c a m)) ∷ states_around (stack_of home))
-embed_closed h p ps home o s (loose b) a m t = handed_piece h ps home o (embedded s (loose b) a m) t.1
-embed_closed h p ps home o s (tight (row b i)) a m t = handed_piece h ps home o (embedded s (tight (row b i)) a m) t.1
+embed_closed h p ps home o s c a m h1 = grind (arith, handed_piece)

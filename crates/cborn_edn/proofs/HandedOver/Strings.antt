@@ -1,10 +1,10 @@
 -- Strings that end, and their chunks.
-use Rattle.std.specs.Prelude.{◌≡◌, ◌^◌, ◌<◌, ◌∷◌, ◌++◌, ◌&&◌, if◌then◌else◌}
-use Rattle.cborn_edn.proofs.Common.{refl, sym, ap, ◌∙◌, subst, ℕ, List, [], length, map, Bool, true, false, arith, append_assoc, map-append, Width, Chunk, StringKind, OfBytes, OfText, WidthFits, least, Partial, top, inside, an_array, a_map, a_tag, in_chunks, put, IsFree, TakesString, string_tree, chunks_tree, MixedChunks, Event, String, NoChunks, Close, Joint, width, is_endless, same_kind, Str, said_string, chunk, chunked_node, string_node, mark_errors, chunk_errors, Span, Pieces, string, chunked, Strings, strings, StringsBefore, no_string, after_strings, depth_of_pieces, Stack, as_item, as_chunk, wants, has, builds, wants_chunk, str, kind_in, chunks, faults_of_pieces, faults_of_strings, noted, noted_stack, pieces_bytes, joint, kind_before, Comes, front_of, Hands, string_event, chunk_event, ProfileTwo as Two, strings_held, EventFits as Fits}
+use Rattle.std.specs.Prelude.{◌≡◌, ◌^◌, ◌<◌, ◌++◌}
+use Rattle.cborn_edn.proofs.Common.{sym, ap, ◌∙◌, ℕ, List, [], length, Bool, true, false, arith, append_assoc, map-append, Width, Chunk, StringKind, OfText, WidthFits, least, Partial, put, IsFree, TakesString, string_tree, chunks_tree, String, Close, Joint, width, same_kind, Str, said_string, chunk, chunked_node, string_node, mark_errors, chunk_errors, Span, Pieces, string, chunked, Strings, strings, StringsBefore, no_string, after_strings, depth_of_pieces, Stack, as_item, as_chunk, wants, has, builds, wants_chunk, str, kind_in, faults_of_pieces, faults_of_strings, noted, noted_stack, pieces_bytes, joint, kind_before, Comes, front_of, Hands, string_event, chunk_event, ProfileTwo as Two, strings_held, EventFits as Fits}
 use Rattle.cborn_model.specs.shared.Walks.{string_of}
 use Rattle.cborn_edn.specs.devices.Events.{after}
 use Rattle.cborn_edn.proofs.Short.Derived.{derived_pieces}
-use Rattle.cborn_edn.proofs.Meaning.NoError.{no_left, no_right, held, known_pieces, mark_fits}
+use Rattle.cborn_edn.proofs.Meaning.NoError.{no_left, no_right, known_pieces, mark_fits}
 use Rattle.cborn_edn.proofs.Reader.Showing.{known_bytes}
 use Rattle.cborn_edn.proofs.Reader.Settling.{text_item, text_node}
 use Rattle.cborn_edn.proofs.HandedOver.Handing.{free}
@@ -14,46 +14,26 @@ known_here : (ps : Pieces) → faults_of_pieces ps ≡ [] → (str ps).known ≡
 known_here ps = known_pieces (derived_pieces Two ps (depth_of_pieces ps) (omega arith) tt)
 
 node_of : (k : StringKind) (p : ℕ) (cs : List Chunk) → chunks_tree p k cs ≡ chunked_node k p cs
-node_of OfBytes p cs = refl
-node_of OfText p cs = refl
+node_of k p cs = grind arith
 
 same_is : (k l : StringKind) → same_kind k l ≡ true → k ≡ l
-same_is OfBytes OfBytes e = refl
-same_is OfText OfText e = refl
-same_is OfBytes OfText e = absurd (let bad : false ≡ true = e in cc)
-same_is OfText OfBytes e = absurd (let bad : false ≡ true = e in cc)
+same_is k l h1 = grind arith
 
 none_both : {A : Type 0} (x y : List A) → x ≡ [] → y ≡ [] → x ++ y ≡ []
-none_both [] y e f = f
-none_both (a ∷ x) y e f = absurd (let bad : a ∷ x ≡ [] = e in cc)
+none_both x y h1 h2 = grind arith
 
 takes : (f : Partial) (k : StringKind) → IsFree f → TakesString f k
-takes (top ts) k h = tt
-takes (inside f (an_array p s c) ts) k h = tt
-takes (inside f (a_map p s c) ts) k h = tt
-takes (inside f (a_tag p w n) ts) k h = tt
-takes (inside f (in_chunks p j) ts) k h = absurd h.1
+takes f k h1 = grind arith
 
 string_is : (k : StringKind) (p : ℕ) (w : Width) (x : List ℕ) → string_tree p k w x ≡ string_node k p w x
-string_is OfBytes p w x = refl
-string_is OfText p w x = refl
+string_is k p w x = grind arith
 
 -- the event of a whole string makes its node
 abbrev Makes : Partial → Str → Joint → List ℕ → Type 0
 Makes f s j x = Comes (string_event j (length x)) f × (after (string_event j (length x)) j.place x f ≡ put f (said_string s))
 
 makes : (f : Partial) (s : Str) → IsFree f → Makes f s (joint s) s.bytes
-makes f s h = go (s.lone && is_endless s.mark)
-  where
-    w : Width
-    w = width s.mark (length s.bytes)
-
-    event : Bool → Event
-    event b = if b then NoChunks s.kind else String s.kind w
-
-    go : (b : Bool) → Comes (event b) f × (after (event b) s.place s.bytes f ≡ put f (if b then chunked_node s.kind s.place [] else string_node s.kind s.place w s.bytes))
-    go true = (h, ap (put f) (node_of s.kind s.place []))
-    go false = ((h.0, takes f s.kind h), ap (put f) (string_is s.kind s.place w s.bytes))
+makes f s h1 = grind arith
 
 -- of a string of these pieces with this content
 module _ (ps : Pieces) {j : Joint} {x : List ℕ} (is : j ≡ joint (str ps)) (same : x ≡ pieces_bytes ps) where
@@ -62,42 +42,20 @@ module _ (ps : Pieces) {j : Joint} {x : List ℕ} (is : j ≡ joint (str ps)) (s
   meant none = same ∙ known_bytes ps (known_here ps none)
 
   pub hands_string : (st : Stack) → Hands (string_event j (length x)) j.place x (builds (as_item st) ps) (has st (string ps))
-  hands_string st q =
-      let none : faults_of_pieces ps ≡ [] = no_left _ _ (no_right (noted_stack st) _ q) in
-      let f = front_of st in
-      let made = subst (λ (y : Joint). Makes f (str ps) y x) (sym is) (subst (Makes f (str ps) (joint (str ps))) (sym (meant none)) (makes f (str ps) (free st))) in
-      (no_left (noted_stack st ++ faults_of_pieces ps) _ (append_assoc (noted_stack st) (faults_of_pieces ps) _ ∙ q), made.0, made.1)
+  hands_string st = grind (arith, append_assoc, faults_of_pieces, free, front_of, joint, makes, meant, no_left, no_right, noted_stack, str)
 
   wide : (may_end : Bool) → faults_of_pieces ps ≡ [] → mark_errors may_end (str ps) ≡ [] → length x < 2 ^ 64 → WidthFits (width j.mark (length x)) (length x)
-  wide may_end none marked small =
-      let fit = mark_fits may_end (str ps) (known_here ps none) marked (subst (λ (y : List ℕ). length y < 2 ^ 64) (meant none) small) in
-      subst (λ (y : Joint). WidthFits (width y.mark (length x)) (length x)) (sym is) (subst (λ (y : List ℕ). WidthFits (width (str ps).mark (length y)) (length y)) (sym (meant none)) fit)
+  wide may_end h1 h2 h3 = grind (arith, known_here, length, mark_fits, meant, str, width)
 
   pub string_fits : (st : Stack) → noted (has st (string ps)) ≡ [] → length x < 2 ^ 64 → Fits (string_event j (length x)) x
-  string_fits st q small = go (j.lone && is_endless j.mark)
-    where
-      go : (b : Bool) → Fits (if b then NoChunks j.kind else String j.kind (width j.mark (length x))) x
-      go true = tt
-      go false = let own = no_right (noted_stack st) _ q in wide (str ps).lone (no_left _ _ own) (no_left _ _ (no_right (faults_of_pieces ps) _ own)) small
+  string_fits st h1 h2 = grind (arith, no_left, no_right, wide)
 
   chunk_is : faults_of_pieces ps ≡ [] → string_tree j.place j.kind (width j.mark (length x)) x ≡ string_of (str ps).kind (chunk (str ps))
   chunk_is none = let content = meant none in λ i. string_tree (is i).place (is i).kind (width (is i).mark (length (content i))) (content i)
 
   module _ (st : Stack) (s a : Span) where
     pub hands_chunk : (b : StringsBefore) → Hands (chunk_event (record { place = s.start; kind = kind_before b }) j (length x)) j.place x (builds (as_chunk st s b) ps) (wants_chunk st s (after_strings (strings b ps) a))
-    hands_chunk no_string q =
-        let none : faults_of_pieces ps ≡ [] = no_left _ _ (no_right (noted_stack st) _ q) in
-        (none_both (noted_stack st ++ []) (faults_of_pieces ps) (none_both (noted_stack st) [] (no_left (noted_stack st) _ q) refl) none, free st, λ i. inside (front_of st) (in_chunks s.start (is i).kind) (chunk_is none i ∷ []))
-    hands_chunk (after_strings ss c) q =
-        let own = no_right (faults_of_strings ss) (faults_of_pieces ps ++ chunk_errors (kind_in ss) (str ps)) (no_right (noted_stack st) _ q) in
-        let none : faults_of_pieces ps ≡ [] = no_left _ _ own in
-        let kinds : kind_in ss ≡ (str ps).kind = same_is _ _ (held _ (str ps).place MixedChunks (no_left _ _ (no_right (faults_of_pieces ps) _ own))) in
-        let so_far = map (string_of (kind_in ss)) (chunks ss) in
-        let stood = free st in (
-          none_both (noted_stack st ++ faults_of_strings ss) (faults_of_pieces ps) (none_both (noted_stack st) _ (no_left _ _ q) (no_left (faults_of_strings ss) _ (no_right (noted_stack st) _ q))) none,
-          ((stood.0, stood.1, (strings_held (kind_in ss) (chunks ss)).0), kinds ∙ ap (λ (y : Joint). y.kind) (sym is)),
-          ap (inside (front_of st) (in_chunks s.start (kind_in ss))) (ap (λ v. so_far ++ v ∷ []) (chunk_is none ∙ ap (λ l. string_of l (chunk (str ps))) (sym kinds)) ∙ sym (map-append (string_of (kind_in ss)) (chunks ss) (chunk (str ps) ∷ []))),
-        )
+    hands_chunk b = grind (arith, chunk_is, free, map-append, no_left, no_right, none_both, same_is, strings_held)
 
     pub chunk_fits : (b : StringsBefore) → noted (wants_chunk st s (after_strings (strings b ps) a)) ≡ [] → length x < 2 ^ 64 → Fits (chunk_event (record { place = s.start; kind = kind_before b }) j (length x)) x
     chunk_fits no_string q small = let own = no_right (noted_stack st) _ q in wide false (no_left _ _ own) (no_left _ _ (no_right (faults_of_pieces ps) _ own)) small
@@ -106,10 +64,7 @@ module _ (ps : Pieces) {j : Joint} {x : List ℕ} (is : j ≡ joint (str ps)) (s
         wide false (no_left _ _ own) (no_left (mark_errors false (str ps)) _ (no_right _ _ (no_right (faults_of_pieces ps) _ own))) small
 
 pub hands_chunks_end : (st : Stack) (s a e : Span) (ss : Strings) → Hands Close 0 [] (wants_chunk st s (after_strings ss a)) (has st (chunked s ss e))
-hands_chunks_end st s a e ss =
-    let k = kind_in ss in
-    hands_close (wants_chunk st s (after_strings ss a)) (has st (chunked s ss e)) (front_of st) (in_chunks s.start k) (map (string_of k) (chunks ss)) refl (free st) (strings_held k (chunks ss)).0 tt (λ q. q)
-    (λ q. ap (put (front_of st)) (ap (chunks_tree s.start k) (strings_held k (chunks ss)).1 ∙ node_of k s.start (chunks ss)))
+hands_chunks_end st s a e ss = grind (arith, free, hands_close, node_of, strings_held)
 
 pub hands_text : (st : Stack) (a : Span) (x : List ℕ) (place : ℕ) (w : Width) → place ≡ a.start → w ≡ least (length x) → Hands (String OfText w) place x (wants st) (has st (text_item a x))
 hands_text st a x place w p e q = (no_left _ _ q, ((free st).0, takes (front_of st) OfText (free st)), (λ i. put (front_of st) (string_tree (p i) OfText (e i) x)) ∙ ap (put (front_of st)) (sym (text_node a x)))

@@ -1,6 +1,6 @@
 -- Numbers and tags of the fixed notation, as pieces.
-use Rattle.std.specs.Prelude.{◌≡◌, ◌+◌, ◌*◌, ◌^◌, ◌<◌, ◌%◌, ◌∷◌, ◌++◌, ◌||◌}
-use Rattle.cborn_edn.proofs.Common.{refl, sym, ap, ◌∙◌, subst, ℕ, suc, List, [], length, get_or, Bool, true, false, not, eqb, inl, inr, Ok, Some, decimal, append-nil, arith, and_from, and_right, cond-true, cond-false, ne_eqb, cases_lt, decimal_digit, decimal_is_IsNumeral_wide, decimal_by_steps_wide, codes, list_all, is_digit, digit_value, Mark, Absent, Wide, Class, Number, TagOpen, Read, begins, is_numeral, are_digits, within, has_prefix, number_front, signed, Start, digit, start_of, ReadsFrom, ReadsNumber, Direct, token, nowhere, indicator, length-append, ProfileOne, passes, passes_at, digit_starts, within_back}
+use Rattle.std.specs.Prelude.{◌≡◌, ◌+◌, ◌^◌, ◌<◌, ◌%◌, ◌∷◌, ◌++◌, ◌||◌}
+use Rattle.cborn_edn.proofs.Common.{refl, sym, ap, ◌∙◌, subst, ℕ, suc, List, [], length, get_or, Bool, true, false, not, eqb, inl, inr, Ok, Some, decimal, append-nil, arith, and_from, and_right, cond-true, cond-false, ne_eqb, cases_lt, decimal_digit, decimal_is_IsNumeral_wide, decimal_by_steps_wide, codes, list_all, is_digit, digit_value, Mark, Class, Number, TagOpen, Read, begins, is_numeral, are_digits, within, has_prefix, number_front, signed, Start, digit, start_of, ReadsFrom, ReadsNumber, token, nowhere, indicator, length-append, ProfileOne, passes, passes_at, digit_starts, within_back}
 use Rattle.std.proofs.Math.ListN.{get_or-append}
 use Rattle.std.proofs.lemmas.Str.Parse.{digit_from_value}
 use Rattle.std.specs.Str.Parse.{AllDigits, digits_value_after}
@@ -23,8 +23,7 @@ starts c h = let r = digit_from_value c h in digit_starts c r.0 (omega (arith, r
 -- What digits without a leading zero stand for.
 
 value : (n : ℕ) (ds : List ℕ) → number 10 n ds ≡ digits_value_after 10 n ds
-value n [] = refl
-value n (d ∷ ds) = value (n * 10 + digit_value d) ds
+value n ds = grind arith
 
 pub plain_integer : (negative : Bool) (c : ℕ) (ds : List ℕ) → eqb c 48 ≡ false → AllDigits 10 (c ∷ ds) → integer negative (c ∷ ds) ≡ within (number 10 0 (c ∷ ds))
 plain_integer negative c ds e h =
@@ -55,9 +54,7 @@ decimal_text n h = elim (cases_lt 0 n) [
 -- Numbers, and the numbers of tags.
 
 no_numeral : (m : Mark) (z : List ℕ) → IsMark m → begins is_numeral z ≡ false → begins is_numeral (indicator m ++ z) ≡ false
-no_numeral Absent z h e = e
-no_numeral (Wide Direct) z h e = e
-no_numeral _ z h e = refl
+no_numeral m z h1 h2 = grind arith
 
 reads_number : (negative : Bool) (first body : List ℕ) (n : ℕ) (m : Mark) (z : List ℕ) → IsMark m → Closes z → AllDigits 10 body → integer negative (first ++ body) ≡ Ok n → ReadsNumber negative first (body ++ indicator m) z (Read (signed negative n m))
 reads_number negative first body n m z h k d e = (
@@ -75,14 +72,7 @@ reads_number negative first body n m z h k d e = (
 )
 
 reads_tag : (first body : List ℕ) (n : ℕ) (m : Mark) (z : List ℕ) → IsMark m → AllDigits 10 body → integer false (first ++ body) ≡ Ok n → ReadsNumber false first (body ++ (indicator m ++ codes "(")) z (Read (TagOpen n m))
-reads_tag first body n m z h d e = (
-  true,
-  body,
-  indicator m,
-  codes "(",
-  record { run = record { pass = digits_pass is_numeral body refl d; ends = no_numeral m (40 ∷ z) h refl }; indicator = indicates m (40 ∷ z) h refl refl; tagging = (refl, refl, refl, refl); whole = refl },
-  sym (ap (λ o. number_front false true o (integer false (first ++ body))) (mark_is m h) ∙ ap (number_front false true (Some m)) e),
-)
+reads_tag first body n m z h1 h2 h3 = grind (arith, digits_pass, indicates, mark_is, no_numeral)
 
 pub number_text : (n : ℕ) (m : Mark) (z : List ℕ) → n < 2 ^ 65 → IsMark m → Closes z → Chained (decimal n ++ indicator m) z (token nowhere (Number false n m) ∷ [])
 number_text n m z l h k =

@@ -55,7 +55,7 @@ bytes_text x m z h k close =
 
 pub hex_nothing : encode_lower [] ≡ []
 unfolding encode_with
-hex_nothing = refl
+hex_nothing = grind arith
 
 pub hex_more : (x y : List ℕ) → encode_lower (x ++ y) ≡ encode_lower x ++ encode_lower y
 unfolding encode_with

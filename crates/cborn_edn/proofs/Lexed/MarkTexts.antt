@@ -1,6 +1,6 @@
 -- Indicators, brackets and separators of the fixed notation, as pieces.
-use Rattle.std.specs.Prelude.{◌≡◌, ◌∷◌, ◌++◌, ◌==◌}
-use Rattle.cborn_edn.proofs.Common.{refl, sym, ap, subst, ℕ, List, [], length, Bool, true, false, eqb, cond, Some, codes, lt-ltb, cond-true, Width, Direct, One, Two, Four, Eight, Size, Fixed, following, least, WidthFits, SizeFits, Mark, Absent, Endless, Wide, Class, ArrayOpen, MapOpen, ParenClose, Comma, Colon, ChunkOpen, Read, begins, is_word, is_numeral, mark_of, marked, IsIndicator, token, nowhere, mark_for, mark_for_size, indicator, opened, ProfileOne, EndlessMark}
+use Rattle.std.specs.Prelude.{◌≡◌, ◌∷◌, ◌++◌, ◌||◌}
+use Rattle.cborn_edn.proofs.Common.{arith, refl, sym, ap, ℕ, List, [], false, eqb, Some, codes, Width, Direct, Size, WidthFits, SizeFits, Mark, Absent, Endless, Wide, Class, ArrayOpen, MapOpen, ParenClose, Comma, Colon, ChunkOpen, Read, begins, is_word, is_numeral, mark_of, marked, IsIndicator, token, nowhere, mark_for, mark_for_size, indicator, opened, ProfileOne}
 use Rattle.cborn_lex.specs.Forms.{Reads}
 use Rattle.cborn_edn.proofs.Lexed.Chained.{Chained, one_token, one_white_space, both}
 
@@ -17,53 +17,20 @@ pub record Closes (z : List ℕ) : Type 0 where
   pub no_paren : begins (λ c. eqb c 40) z ≡ false
   pub no_quote : begins (λ c. eqb c 39) z ≡ false
 
-pub comma_closes : (z : List ℕ) → Closes (44 ∷ z)
-comma_closes z = record { no_word = refl; no_numeral = refl; no_mark = refl; no_paren = refl; no_quote = refl }
-
-pub colon_closes : (z : List ℕ) → Closes (58 ∷ z)
-colon_closes z = record { no_word = refl; no_numeral = refl; no_mark = refl; no_paren = refl; no_quote = refl }
-
-pub paren_closes : (z : List ℕ) → Closes (41 ∷ z)
-paren_closes z = record { no_word = refl; no_numeral = refl; no_mark = refl; no_paren = refl; no_quote = refl }
-
-pub bracket_closes : (z : List ℕ) → Closes (93 ∷ z)
-bracket_closes z = record { no_word = refl; no_numeral = refl; no_mark = refl; no_paren = refl; no_quote = refl }
-
-pub brace_closes : (z : List ℕ) → Closes (125 ∷ z)
-brace_closes z = record { no_word = refl; no_numeral = refl; no_mark = refl; no_paren = refl; no_quote = refl }
-
-pub line_closes : (z : List ℕ) → Closes (10 ∷ z)
-line_closes z = record { no_word = refl; no_numeral = refl; no_mark = refl; no_paren = refl; no_quote = refl }
-
--- an indicator that the notation has: never a direct width
-wide_or_none : (b : Bool) (w : Width) → IsMark (Wide w) → IsMark (cond b Absent (Wide w))
-wide_or_none true w h = tt
-wide_or_none false w h = h
+pub closes : (c : ℕ) (z : List ℕ) → ((((is_word c || is_numeral c) || eqb c 95) || eqb c 40) || eqb c 39) ≡ false → Closes (c ∷ z)
+closes c z h1 = grind arith
 
 pub is_mark : (w : Width) (n : ℕ) → WidthFits w n → IsMark (mark_for w n)
-is_mark Direct n h = let e : least n ≡ Direct = cond-true _ _ _ (lt-ltb n 24 h) in subst (λ (v : Width). IsMark (cond (0 == length (following v n)) Absent (Wide Direct))) (sym e) tt
-is_mark One n h = wide_or_none (length (following One n) == length (following (least n) n)) One tt
-is_mark Two n h = wide_or_none (length (following Two n) == length (following (least n) n)) Two tt
-is_mark Four n h = wide_or_none (length (following Four n) == length (following (least n) n)) Four tt
-is_mark Eight n h = wide_or_none (length (following Eight n) == length (following (least n) n)) Eight tt
+is_mark w n h1 = grind arith
 
 pub is_size_mark : (s : Size) (n : ℕ) → SizeFits s n → IsMark (mark_for_size s n)
-is_size_mark EndlessMark n h = tt
-is_size_mark (Fixed w) n h = is_mark w n h
+is_size_mark s n h1 = grind arith
 
 pub mark_is : (m : Mark) → IsMark m → mark_of (indicator m) ≡ Some m
-mark_is Absent h = refl
-mark_is (Wide Direct) h = absurd h
-mark_is _ h = refl
+mark_is m h1 = grind arith
 
 pub indicates : (m : Mark) (z : List ℕ) → IsMark m → begins is_word z ≡ false → begins (λ c. eqb c 95) z ≡ false → IsIndicator (indicator m) z
-indicates Absent z h k e = e
-indicates Endless z h k e = (refl, record { pass = refl; ends = k })
-indicates (Wide Direct) z h k e = absurd h
-indicates (Wide One) z h k e = (refl, record { pass = refl; ends = k })
-indicates (Wide Two) z h k e = (refl, record { pass = refl; ends = k })
-indicates (Wide Four) z h k e = (refl, record { pass = refl; ends = k })
-indicates (Wide Eight) z h k e = (refl, record { pass = refl; ends = k })
+indicates m z h1 h2 h3 = grind arith
 
 -- Separators and closing brackets.
 

@@ -3,7 +3,7 @@ use Rattle.std.specs.Prelude.{◌≡◌, ◌∷◌, ◌++◌}
 use Rattle.cborn_edn.proofs.Common.{refl, sym, ap, ◌∙◌, subst, ℕ, List, [], map, length, false, eqb, decimal, append_assoc, arith, codes, AreBytes, Width, Chunk, Tree, Uint, Nint, ByteChunks, TextChunks, Items, Tagged, Simple, Trees, more, Entries, no_entry, entry, count, count_entries, WidthFits, ChunksFit, Fits, FitsAll, FitsEntries, Mark, ArrayOpen, ArrayClose, MapOpen, MapClose, ParenClose, Comma, Colon, ChunkOpen, TagOpen, Token, begins, no_string, no_item, no_pair, token, tokens_of, tokens_of_pieces, tokens_of_strings, tokens_of_content, tokens_of_fields, tokens_of_input, StringKind, OfBytes, OfText, nowhere, chunk_pieces, chunk_row, chunk_item, notated, notated_content, notated_fields, notated_input, others, mark_for, mark_for_size, indicator, opened, shown_string, shown_chunk, joined_by, shown_chunks, shown, item_texts, pair_texts, shown_lines, ByteNode, TextNode, Pairs as PairNode, no_node, Endless, simple_below, Profile, HasTokens, unplaced_token, Shown, map as list_map, append-nil, Item, StringsBefore, strings, after_strings, RowBefore, row, after_row, PairsBefore, pairs, after_pairs, tokens_of_strings_before, tokens_of_row, tokens_of_row_before, tokens_of_pairs, tokens_of_pairs_before, notated_row, notated_pairs}
 use Rattle.cborn_edn.proofs.RoundTrip.Back.{below}
 use Rattle.cborn_edn.proofs.Lexed.Chained.{Chained, no_text, both, retell, one_token, HasBare, whole_text}
-use Rattle.cborn_edn.proofs.Lexed.MarkTexts.{Closes, comma_closes, colon_closes, paren_closes, bracket_closes, brace_closes, line_closes, is_mark, is_size_mark, comma_space, paren_close, line, chunks_open, array_open, map_open, comma, colon, space}
+use Rattle.cborn_edn.proofs.Lexed.MarkTexts.{Closes, closes, is_mark, is_size_mark, comma_space, paren_close, line, chunks_open, array_open, map_open, comma, colon, space}
 use Rattle.cborn_edn.proofs.Lexed.DecimalTexts.{number_text, negative_text, tag_text, decimal_begins}
 use Rattle.cborn_edn.proofs.Lexed.HexTexts.{bytes_text}
 use Rattle.cborn_edn.proofs.Lexed.QuotedTexts.{text_text, no_byte_chunks}
@@ -45,8 +45,7 @@ pair_tokens (entry k v es) b i j =
 -- Strings.
 
 string_text : (k : StringKind) (w : Width) (x : List ℕ) (p : ℕ) (z : List ℕ) → WidthFits w (length x) → AreBytes x → Closes z → Chained (shown_string k w x) z (tokens_of_pieces (chunk_pieces k (record { place = p; width = w; bytes = x })))
-string_text OfBytes w x p z h b close = bytes_text x (mark_for w (length x)) z b (is_mark w (length x) h) close
-string_text OfText w x p z h b close = text_text x (mark_for w (length x)) z b (is_mark w (length x) h) close
+string_text k w x p z h1 h2 h3 = grind (arith, bytes_text, is_mark, text_text)
 
 chunk_text : (k : StringKind) (c : Chunk) (z : List ℕ) → WidthFits c.width (length c.bytes) → AreBytes c.bytes → Closes z → Chained (shown_chunk k c) z (tokens_of_pieces (chunk_pieces k c))
 chunk_text k c z h b close = string_text k c.width c.bytes c.place z h b close
@@ -57,7 +56,7 @@ further = others (codes ", ")
 
 further_close : (xs : List (List ℕ)) (z : List ℕ) → Closes z → Closes (further xs ++ z)
 further_close [] z h = h
-further_close (x ∷ xs) z h = comma_closes _
+further_close (x ∷ xs) z h = closes 44 _ refl
 
 abbrev further_chunks : StringKind → List Chunk → List ℕ
 further_chunks k cs = further (map (shown_chunk k) cs)
@@ -71,7 +70,7 @@ more_chunks k (c ∷ cs) z h close =
 -- one chunk or more
 chunks_text : (k : StringKind) (c : Chunk) (cs : List Chunk) (z : List ℕ) → ChunksFit (c ∷ cs) → Chained (codes "(_ " ++ (joined_by (codes ", ") (map (shown_chunk k) (c ∷ cs)) ++ codes ")")) z (tokens_of (chunk_item k (c ∷ cs)))
 chunks_text k c cs z h =
-    let row = both (shown_chunk k c) (further_chunks k cs) (41 ∷ z) (tokens_of_pieces (chunk_pieces k c)) (more_chunk_tokens k cs) (chunk_text k c _ h.0.0 h.0.1 (further_close _ (41 ∷ z) (paren_closes z))) (more_chunks k cs (41 ∷ z) h.1 (paren_closes z)) in
+    let row = both (shown_chunk k c) (further_chunks k cs) (41 ∷ z) (tokens_of_pieces (chunk_pieces k c)) (more_chunk_tokens k cs) (chunk_text k c _ h.0.0 h.0.1 (further_close _ (41 ∷ z) (closes 41 z refl))) (more_chunks k cs (41 ∷ z) h.1 (closes 41 z refl)) in
     let inside = tokens_of_strings (chunk_row k cs no_string c) in
     both (codes "(_ ") _ z (token nowhere ChunkOpen ∷ []) (inside ++ token nowhere ParenClose ∷ []) (chunks_open _)
     (both _ (codes ")") z inside (token nowhere ParenClose ∷ []) (retell _ (41 ∷ z) _ _ (sym (chunk_tokens k cs no_string c)) row) (paren_close z))
@@ -90,10 +89,7 @@ abbrev Unmarked : List ℕ → Type 0
 Unmarked z = begins (λ c. eqb c 95) z ≡ false
 
 chunks_begin : (k : StringKind) (cs : List Chunk) (z : List ℕ) → Unmarked (shown_chunks k cs ++ z)
-chunks_begin OfBytes [] z = refl
-chunks_begin OfText [] z = refl
-chunks_begin OfBytes (c ∷ cs) z = refl
-chunks_begin OfText (c ∷ cs) z = refl
+chunks_begin k cs z = grind arith
 
 node_begins : (t : Tree) (z : List ℕ) → Fits t → Unmarked (shown t ++ z)
 node_begins (Uint p w n) z h = let l = below w n h in rw append_assoc (decimal_begins n (indicator (mark_for w n) ++ z) (omega arith))
@@ -142,19 +138,19 @@ mutual
       let m = mark_for_size s (count ts) in
       both (codes "[" ++ opened m) (joined_by (codes ", ") (item_texts ts) ++ codes "]") z (token nowhere (ArrayOpen m) ∷ []) (tokens_of_content (notated_content ts) ++ token nowhere ArrayClose ∷ [])
       (array_open m _ (is_size_mark s (count ts) h.0) (rw append_assoc (all_begin ts (93 ∷ z) h.1 refl)))
-      (both (joined_by (codes ", ") (item_texts ts)) (codes "]") z (tokens_of_content (notated_content ts)) (token nowhere ArrayClose ∷ []) (all_text ts (93 ∷ z) h.1 (bracket_closes z)) (one_token ArrayClose (codes "]") z (refl, refl)))
+      (both (joined_by (codes ", ") (item_texts ts)) (codes "]") z (tokens_of_content (notated_content ts)) (token nowhere ArrayClose ∷ []) (all_text ts (93 ∷ z) h.1 (closes 93 z refl)) (one_token ArrayClose (codes "]") z (refl, refl)))
   node_text (PairNode p s es) z h close =
       let m = mark_for_size s (count_entries es) in
       both (codes "{" ++ opened m) (joined_by (codes ", ") (pair_texts es) ++ codes "}") z (token nowhere (MapOpen m) ∷ []) (tokens_of_fields (notated_fields es) ++ token nowhere MapClose ∷ [])
       (map_open m _ (is_size_mark s (count_entries es) h.0) (rw append_assoc (entries_begin es (125 ∷ z) h.1 refl)))
-      (both (joined_by (codes ", ") (pair_texts es)) (codes "}") z (tokens_of_fields (notated_fields es)) (token nowhere MapClose ∷ []) (entries_text es (125 ∷ z) h.1 (brace_closes z)) (one_token MapClose (codes "}") z (refl, refl)))
+      (both (joined_by (codes ", ") (pair_texts es)) (codes "}") z (tokens_of_fields (notated_fields es)) (token nowhere MapClose ∷ []) (entries_text es (125 ∷ z) h.1 (closes 125 z refl)) (one_token MapClose (codes "}") z (refl, refl)))
   node_text (Tagged p w n t) z h close =
       let l = below w n h.0 in
       let m = mark_for w n in
       tag_whole n m (shown t) z _
       (both (decimal n ++ (indicator m ++ codes "(")) (shown t ++ codes ")") z (token nowhere (TagOpen n m) ∷ []) (tokens_of (notated t) ++ token nowhere ParenClose ∷ [])
       (tag_text n m _ (omega arith) (is_mark w n h.0))
-      (both (shown t) (codes ")") z (tokens_of (notated t)) (token nowhere ParenClose ∷ []) (node_text t (41 ∷ z) h.1 (paren_closes z)) (paren_close z)))
+      (both (shown t) (codes ")") z (tokens_of (notated t)) (token nowhere ParenClose ∷ []) (node_text t (41 ∷ z) h.1 (closes 41 z refl)) (paren_close z)))
   node_text (Simple p n) z h close = simple_text n z (simple_below n h) close
 
   all_text : (ts : Trees) (z : List ℕ) → FitsAll ts → Closes z → Chained (joined_by (codes ", ") (item_texts ts)) z (tokens_of_content (notated_content ts))
@@ -172,12 +168,12 @@ mutual
   entries_text : (es : Entries) (z : List ℕ) → FitsEntries es → Closes z → Chained (joined_by (codes ", ") (pair_texts es)) z (tokens_of_fields (notated_fields es))
   entries_text no_entry z h close = no_text z
   entries_text (entry k v es) z h close =
-      retell _ z _ _ (sym (pair_tokens es no_pair (notated k) (notated v))) (pair_text k v _ z (more_pair_tokens es) (node_text k _ h.0 (colon_closes _)) (node_text v _ h.1 (further_close _ z close)) (more_entries es z h.2 close))
+      retell _ z _ _ (sym (pair_tokens es no_pair (notated k) (notated v))) (pair_text k v _ z (more_pair_tokens es) (node_text k _ h.0 (closes 58 _ refl)) (node_text v _ h.1 (further_close _ z close)) (more_entries es z h.2 close))
 
   more_entries : (es : Entries) (z : List ℕ) → FitsEntries es → Closes z → Chained (further (pair_texts es)) z (more_pair_tokens es)
   more_entries no_entry z h close = no_text z
   more_entries (entry k v es) z h close =
-      both (codes ", ") _ z (token nowhere Comma ∷ []) (tokens_of (notated k) ++ (token nowhere Colon ∷ (tokens_of (notated v) ++ more_pair_tokens es))) (comma_space _) (pair_text k v _ z (more_pair_tokens es) (node_text k _ h.0 (colon_closes _)) (node_text v _ h.1 (further_close _ z close)) (more_entries es z h.2 close))
+      both (codes ", ") _ z (token nowhere Comma ∷ []) (tokens_of (notated k) ++ (token nowhere Colon ∷ (tokens_of (notated v) ++ more_pair_tokens es))) (comma_space _) (pair_text k v _ z (more_pair_tokens es) (node_text k _ h.0 (closes 58 _ refl)) (node_text v _ h.1 (further_close _ z close)) (more_entries es z h.2 close))
 
 -- A sequence.
 
@@ -185,13 +181,11 @@ abbrev further_lines : Trees → List ℕ
 further_lines ts = others (codes ",\n") (item_texts ts)
 
 lines_close : (ts : Trees) (z : List ℕ) → Closes ((further_lines ts ++ codes "\n") ++ z)
-lines_close no_node z = line_closes _
-lines_close (more t ts) z = comma_closes _
+lines_close no_node z = closes 10 _ refl
+lines_close (more t ts) z = closes 44 _ refl
 
 line_text : (t : Tree) (ts : Trees) (z : List ℕ) → Fits t → Chained (further_lines ts ++ codes "\n") z (more_tokens ts) → Chained ((shown t ++ further_lines ts) ++ codes "\n") z (tokens_of (notated t) ++ more_tokens ts)
-line_text t ts z h rest =
-    subst (λ (y : List ℕ). Chained y z (tokens_of (notated t) ++ more_tokens ts)) (sym (append_assoc (shown t) (further_lines ts) (codes "\n")))
-    (both (shown t) (further_lines ts ++ codes "\n") z (tokens_of (notated t)) (more_tokens ts) (node_text t _ h (lines_close ts z)) rest)
+line_text t ts z h1 h2 = grind (arith, append_assoc, both, lines_close, node_text)
 
 more_lines : (ts : Trees) (z : List ℕ) → FitsAll ts → Chained (further_lines ts ++ codes "\n") z (more_tokens ts)
 more_lines no_node z h = line z

@@ -28,7 +28,7 @@ is_written b = bytes_eq (escaped b) (written (letter_of b)) && (is_letter 34 (le
 
 each_written : passes is_written 0 256 ≡ true
 unfolding encode_with lib.Utf8.encode
-each_written = refl
+each_written = grind arith
 
 is_written_at : (b : ℕ) → b < 256 → (escaped b ≡ written (letter_of b)) × (is_letter 34 (letter_of b) ≡ true) × (meant (letter_of b) ≡ b ∷ []) × (is_content 34 (escaped b) ≡ true)
 is_written_at b h =
@@ -56,13 +56,7 @@ inside [] h = refl
 inside (b ∷ x) h = content_then 34 (escaped b) (flat_map escaped x) (is_written_at b h.0).3 (inside x h.1)
 
 pub text_text : (x : List ℕ) (m : Mark) (z : List ℕ) → AreBytes x → IsMark m → Closes z → Chained (codes "\"" ++ (flat_map escaped x ++ (codes "\"" ++ indicator m))) z (token nowhere (Text x m) ∷ [])
-text_text x m z h k close =
-    one_token (Text x m) (34 ∷ (flat_map escaped x ++ (34 ∷ indicator m))) z (inl (
-      flat_map escaped x,
-      indicator m,
-      record { inside = inside x h; text = refl; indicator = indicates m z k close.no_word close.no_mark },
-      inl (x, is_text x h, ap (marked (Text x)) (sym (mark_is m k))),
-    ))
+text_text x m z h1 h2 h3 = grind (arith, escaped, flat_map, indicates, indicator, inl, inside, is_text, mark_is, marked, one_token)
 
 -- empty strings in no chunks
 

@@ -1,8 +1,8 @@
 -- Simple values of the fixed notation, as pieces.
-use Rattle.std.specs.Prelude.{◌≡◌, ◌<◌, ◌≤◌, ◌∷◌, ◌++◌}
-use Rattle.cborn_edn.proofs.Common.{refl, sym, ◌∙◌, subst, ℕ, List, [], Bool, true, false, eqb, cond, inl, inr, decimal, append-nil, arith, cond-true, cond-false, lt-ltb, le-ltb, eqb-true, eqb-false, cases_Bool, cases_lt, codes, Absent, Number, Word, SimpleOpen, ParenClose, begins, Item, simple, token, tokens_of, nowhere, simple_item, shown_simple}
+use Rattle.std.specs.Prelude.{◌≡◌, ◌<◌, ◌∷◌, ◌++◌}
+use Rattle.cborn_edn.proofs.Common.{refl, sym, subst, ℕ, List, [], false, eqb, inl, inr, decimal, append-nil, arith, eqb-true, cases_Bool, codes, Absent, Number, Word, SimpleOpen, ParenClose, begins, Item, simple, token, tokens_of, nowhere, simple_item, shown_simple}
 use Rattle.cborn_edn.proofs.Lexed.Chained.{Chained, one_token, both}
-use Rattle.cborn_edn.proofs.Lexed.MarkTexts.{Closes, paren_closes, paren_close}
+use Rattle.cborn_edn.proofs.Lexed.MarkTexts.{Closes, closes, paren_close}
 use Rattle.cborn_edn.proofs.Lexed.DecimalTexts.{number_text}
 
 simple_open : (z : List ℕ) → Chained (codes "simple(") z (token nowhere SimpleOpen ∷ [])
@@ -15,22 +15,13 @@ numbered_text : (n : ℕ) (z : List ℕ) → n < 256 → Chained (codes "simple(
 numbered_text n z h =
     subst (λ (x : List ℕ). Chained (codes "simple(" ++ (x ++ codes ")")) z (tokens_of (numbered n))) (append-nil (decimal n))
     (both (codes "simple(") ((decimal n ++ []) ++ codes ")") z (token nowhere SimpleOpen ∷ []) (token nowhere (Number false n Absent) ∷ token nowhere ParenClose ∷ []) (simple_open (((decimal n ++ []) ++ codes ")") ++ z))
-    (both (decimal n ++ []) (codes ")") z (token nowhere (Number false n Absent) ∷ []) (token nowhere ParenClose ∷ []) (number_text n Absent (41 ∷ z) (omega arith) tt (paren_closes z)) (paren_close z)))
+    (both (decimal n ++ []) (codes ")") z (token nowhere (Number false n Absent) ∷ []) (token nowhere ParenClose ∷ []) (number_text n Absent (41 ∷ z) (omega arith) tt (closes 41 z refl)) (paren_close z)))
 
 other_item : (n : ℕ) → eqb n 20 ≡ false → eqb n 21 ≡ false → eqb n 22 ≡ false → eqb n 23 ≡ false → simple_item n ≡ numbered n
-other_item n e f g h = elim (cases_lt n 20) [
-  | inl low ↦ cond-true _ _ _ (lt-ltb n 20 low)
-  | inr high ↦
-      let a = eqb-false n 20 e in
-      let b = eqb-false n 21 f in
-      let c = eqb-false n 22 g in
-      let d = eqb-false n 23 h in
-      let more : 24 ≤ n = omega arith in
-      cond-false _ _ _ (le-ltb n 20 high) ∙ cond-false _ _ _ (le-ltb n 24 more)
-]
+other_item n e f g h = grind arith
 
 other_text : (n : ℕ) → eqb n 20 ≡ false → eqb n 21 ≡ false → eqb n 22 ≡ false → eqb n 23 ≡ false → shown_simple n ≡ codes "simple(" ++ (decimal n ++ codes ")")
-other_text n e f g h = cond-false _ _ _ e ∙ (cond-false _ _ _ f ∙ (cond-false _ _ _ g ∙ cond-false _ _ _ h))
+other_text n e f g h = grind arith
 
 abbrev IsRead : List ℕ → ℕ → Type 0
 IsRead z n = Chained (shown_simple n) z (tokens_of (simple_item n))
@@ -52,11 +43,4 @@ simple_text n z l k = elim (cases_Bool (eqb n 20)) [
 
 -- it doesn't begin as an indicator does
 pub simple_begins : (n : ℕ) (z : List ℕ) → begins (λ c. eqb c 95) (shown_simple n ++ z) ≡ false
-simple_begins n z = go (eqb n 20) (eqb n 21) (eqb n 22) (eqb n 23)
-  where
-    go : (a b c d : Bool) → begins (λ c. eqb c 95) (cond a (codes "false") (cond b (codes "true") (cond c (codes "null") (cond d (codes "undefined") (codes "simple(" ++ (decimal n ++ codes ")"))))) ++ z) ≡ false
-    go true b c d = refl
-    go false true c d = refl
-    go false false true d = refl
-    go false false false true = refl
-    go false false false false = refl
+simple_begins n z = grind arith

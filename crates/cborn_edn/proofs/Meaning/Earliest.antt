@@ -1,69 +1,35 @@
 -- The first of several meaning errors: there is one where there is any, and it is the first of the first ones of two parts.
 use Rattle.std.specs.Prelude.{◌≡◌, ◌+◌, ◌*◌, ◌<◌, ◌≤◌, ◌∷◌, ◌++◌, ◌&&◌, ◌||◌}
-use Rattle.cborn_edn.proofs.Common.{refl, sym, ap, subst, ◌∙◌, ℕ, List, [], Bool, true, false, cond, leb, ltb, eqb, Option, Some, None, arith, leb-true, leb-false, le-leb, lt-leb, ltb-true, ltb-false, eqb-true, eqb-false, EdnReason, UnexpectedToken, MeaningError, number_of, IsAmong, earlier, first_error, append-nil, append_assoc, is_nil, is_none, Notes}
+use Rattle.cborn_edn.proofs.Common.{refl, sym, ap, subst, ◌∙◌, ℕ, List, [], Bool, true, false, cond, leb, ltb, eqb, Option, Some, None, arith, leb-true, leb-false, EdnReason, MeaningError, number_of, IsAmong, earlier, first_error, append-nil, append_assoc, is_nil, is_none, Notes}
 use Rattle.cborn_model.specs.First.{NoLater, IsFirst}
 use Rattle.cborn_model.proofs.Firsts.{no_later_on, first_alone, first_left, first_right}
 
 low_number : (r : EdnReason) → number_of r < 64
-low_number UnexpectedToken = omega arith
-low_number _ = omega arith
+low_number r = grind arith
 
 -- place and number of the reason as one number
 rank : MeaningError → ℕ
 rank s = s.place * 64 + number_of s.reason
 
 by_parts : (p q m n : ℕ) → m < 64 → n < 64 → (ltb p q || (eqb p q && leb m n)) ≡ leb (p * 64 + m) (q * 64 + n)
-by_parts p q m n hm hn = go (ltb p q) refl (eqb p q) refl (leb m n) refl
-  where
-    go : (a : Bool) → ltb p q ≡ a → (b : Bool) → eqb p q ≡ b → (c : Bool) → leb m n ≡ c → (a || (b && c)) ≡ leb (p * 64 + m) (q * 64 + n)
-    go true e b f c g = let h : p < q = ltb-true _ _ e in sym (le-leb _ _ (omega arith))
-    go false e true f true g = let h : p ≡ q = eqb-true _ _ f in let i : m ≤ n = leb-true _ _ g in sym (le-leb _ _ (omega arith))
-    go false e true f false g = let h : p ≡ q = eqb-true _ _ f in let i : n < m = leb-false _ _ g in sym (lt-leb _ _ (omega arith))
-    go false e false f c g = let h : q ≤ p = ltb-false _ _ e in let i : p ≡ q → ⊥ = eqb-false _ _ f in sym (lt-leb _ _ (omega arith))
+by_parts p q m n hm hn = grind arith
 
 pick : MeaningError → MeaningError → MeaningError
 pick a b = cond (leb (rank a) (rank b)) a b
 
 picked : (a b : MeaningError) → earlier (Some a) (Some b) ≡ Some (pick a b)
 unfolding pick rank
-picked a b = ap (λ c. Some (cond c a b)) (by_parts a.place b.place (number_of a.reason) (number_of b.reason) (low_number a.reason) (low_number b.reason))
-
-pick-first : (a b : MeaningError) → rank a ≤ rank b → pick a b ≡ a
-unfolding pick
-pick-first a b h = ap (λ c. cond c a b) (le-leb _ _ h)
-
-pick-second : (a b : MeaningError) → rank b < rank a → pick a b ≡ b
-unfolding pick
-pick-second a b h = ap (λ c. cond c a b) (lt-leb _ _ h)
+picked a b = grind (arith, by_parts, low_number, pick, rank)
 
 pick-assoc : (a b c : MeaningError) → pick (pick a b) c ≡ pick a (pick b c)
-pick-assoc a b c = go (leb (rank a) (rank b)) refl (leb (rank b) (rank c)) refl
-  where
-    go : (x : Bool) → leb (rank a) (rank b) ≡ x → (y : Bool) → leb (rank b) (rank c) ≡ y → pick (pick a b) c ≡ pick a (pick b c)
-    go true e true f =
-        let h = leb-true _ _ e in
-        let k = leb-true _ _ f in
-        ap (λ d. pick d c) (pick-first a b h) ∙ pick-first a c (omega arith) ∙ sym (ap (pick a) (pick-first b c k) ∙ pick-first a b h)
-    go true e false f = ap (λ d. pick d c) (pick-first a b (leb-true _ _ e)) ∙ ap (pick a) (sym (pick-second b c (leb-false _ _ f)))
-    go false e true f =
-        let h = leb-false _ _ e in
-        let k = leb-true _ _ f in
-        ap (λ d. pick d c) (pick-second a b h) ∙ pick-first b c k ∙ sym (ap (pick a) (pick-first b c k) ∙ pick-second a b h)
-    go false e false f =
-        let h = leb-false _ _ e in
-        let k = leb-false _ _ f in
-        ap (λ d. pick d c) (pick-second a b h) ∙ pick-second b c k ∙ sym (ap (pick a) (pick-second b c k) ∙ pick-second a c (omega arith))
+unfolding pick rank
+pick-assoc a b c = grind (arith, pick, rank)
 
 earlier-none : (a : Option MeaningError) → earlier a None ≡ a
-earlier-none None = refl
-earlier-none (Some a) = refl
+earlier-none a = grind arith
 
 earlier-assoc : (a b c : Option MeaningError) → earlier (earlier a b) c ≡ earlier a (earlier b c)
-earlier-assoc None b c = refl
-earlier-assoc (Some a) None c = refl
-earlier-assoc (Some a) (Some b) None = earlier-none (earlier (Some a) (Some b))
-earlier-assoc (Some a) (Some b) (Some c) =
-    ap (λ o. earlier o (Some c)) (picked a b) ∙ picked (pick a b) c ∙ ap Some (pick-assoc a b c) ∙ sym (picked a (pick b c)) ∙ ap (earlier (Some a)) (sym (picked b c))
+earlier-assoc a b c = grind (arith, earlier-none, pick, pick-assoc, picked)
 
 pub first-append : (a b : List MeaningError) → first_error (a ++ b) ≡ earlier (first_error a) (first_error b)
 first-append [] b = refl
@@ -79,7 +45,7 @@ Tells l (Some s) = IsFirstOf l s
 
 no_later_than : (a b : MeaningError) → rank a ≤ rank b → NoLater (a.place, number_of a.reason) (b.place, number_of b.reason)
 unfolding rank
-no_later_than a b h = grind arith
+no_later_than a b h1 = grind (arith, rank)
 
 reported_second : (s t : MeaningError) (l : List MeaningError) → IsFirstOf l t → rank t < rank s → IsFirstOf (s ∷ l) t
 reported_second s t l f h = first_right number_of _ (IsAmong l) t.place t.reason (λ q r e. rw (e.0, e.1) (no_later_than t s (omega arith))) f
@@ -113,11 +79,6 @@ both_noted old mid new l m h k before e = k (before ++ l) (h before e) ∙ ap fi
 pub earlier_noted : (old new other : Option MeaningError) (l : List MeaningError) → other ≡ first_error l → new ≡ earlier old other → Notes old new l
 earlier_noted old new other l e f before g = f ∙ ap (λ o. earlier o other) g ∙ ap (earlier (first_error before)) e ∙ sym (first-append before l)
 
-none_earlier : (s : MeaningError) (o : Option MeaningError) → is_none (earlier (Some s) o) ≡ false
-none_earlier s None = refl
-none_earlier s (Some t) = refl
-
 -- whether there is a meaning error, by the first
 pub none_first : (l : List MeaningError) → is_none (first_error l) ≡ is_nil l
-none_first [] = refl
-none_first (s ∷ l) = none_earlier s (first_error l)
+none_first l = grind arith

@@ -1,6 +1,6 @@
 -- What one number, one string, its chunks, an array and a map spell without a meaning error: bytes, not many of them, which fit their widths if they are fewer than 2^64.
-use Rattle.std.specs.Prelude.{◌≡◌, ◌+◌, ◌^◌, ◌<◌, ◌≤◌, ◌∷◌, ◌++◌, ◌&&◌, if◌then◌else◌}
-use Rattle.cborn_edn.proofs.Common.{refl, ℕ, zero, suc, List, [], length, Bool, true, false, cond, arith, flat_map, digits_of, ltb-true, length-append, length-digits_of-le, all_below_base_digits_of, AreBytes, Direct, Size, Fixed, Major, Unsigned, Negative, ByteString, TextString, Array, Chunk, least, Argument, Given, EndlessArgument, head, argument, WidthFits, SizeFits, chunk_bytes, spelled, spelled_all, spelled_entries, ChunksFit, Fits, Tree, Uint, Nint, Items, Pairs, Tagged, Trees, more, Entries, no_entry, entry, count, count_entries, Mark, Absent, Endless, Wide, IndicatorNotAllowed, StringKind, OfBytes, OfText, width, size, is_absent, unless, width_errors, size_errors, is_below, argument_of, is_small, integer, bignum, number_node, number_errors, is_endless, Str, chunked_node, string_node, said_string, mark_errors, string_errors, ByteNode, no_node as no_item, depth_of_number, bytes-append, EndlessMark as EndlessSize, MapHead, TagHead, least_holds, head_bytes}
+use Rattle.std.specs.Prelude.{◌≡◌, ◌+◌, ◌^◌, ◌<◌, ◌≤◌, ◌∷◌, ◌++◌, ◌&&◌}
+use Rattle.cborn_edn.proofs.Common.{refl, ℕ, suc, List, [], length, Bool, true, false, cond, arith, flat_map, digits_of, ltb-true, length-append, length-digits_of-le, all_below_base_digits_of, AreBytes, Direct, Size, Major, Unsigned, Negative, ByteString, TextString, Array, Chunk, least, Argument, Given, head, argument, WidthFits, SizeFits, chunk_bytes, spelled, spelled_all, spelled_entries, ChunksFit, Fits, Tree, Uint, Nint, Items, Pairs, Tagged, Trees, more, Entries, no_entry, entry, count, count_entries, Mark, IndicatorNotAllowed, StringKind, OfBytes, OfText, width, size, is_absent, unless, width_errors, size_errors, is_below, argument_of, is_small, integer, bignum, number_node, number_errors, is_endless, Str, chunked_node, string_node, said_string, mark_errors, string_errors, ByteNode, no_node as no_item, depth_of_number, bytes-append, MapHead, TagHead, least_holds, head_bytes}
 use Rattle.cborn_model.specs.Spelled.{ending, string}
 use Rattle.cborn_model.specs.Tree.{depth}
 use Rattle.cborn_edn.proofs.Meaning.NoError.{no_left, width_fits, size_fits, mark_fits}
@@ -15,8 +15,7 @@ pub record Sound (most : ℕ) (y : List ℕ) (Fit : Type 0) (deep limit : ℕ) :
 
 -- each node spells a byte, so that there are no more nodes than bytes
 sized_some : (k : Major) (s : Size) (n : ℕ) (x : List ℕ) → 0 < length (head k (argument s n) ++ x ++ ending s)
-sized_some k (Fixed w) n x = omega arith
-sized_some k EndlessSize n x = omega arith
+sized_some k s n x = grind arith
 
 some_bytes : (t : Tree) → 0 < length (spelled t)
 some_bytes (Items p s ts) = sized_some Array s (count ts) (spelled_all ts)
@@ -35,13 +34,10 @@ abbrev pub SoundNode : ℕ → Tree → ℕ → Type 0
 SoundNode most t d = Sound most (spelled t) (Fits t) (depth t) d
 
 pub head_short : (m : Major) (a : Argument) → length (head m a) ≤ 9
-head_short m (Given Direct n) = omega arith
-head_short m _ = omega arith
+head_short m a = grind arith
 
 pub argument_below : (n : Bool) (v : ℕ) → v < 2 ^ 128 → argument_of n v < 2 ^ 128
-argument_below true zero h = omega arith
-argument_below true (suc v) h = omega arith
-argument_below false v h = h
+argument_below n v h1 = grind arith
 
 pub number_sound : (p : ℕ) (n : Bool) (v : ℕ) (m : Mark) (d : ℕ) → depth_of_number n v ≤ d → v < 2 ^ 128 → number_errors p n v m ≡ [] → SoundNode 64 (number_node p n v m) d
 number_sound p n v m d low h e = go (is_small n v) refl low e
@@ -72,21 +68,7 @@ number_sound p n v m d low h e = go (is_small n v) refl low e
 -- a string in one head
 pub string_sound : (g : Major) (may_end : Bool) (s : Str) (d : ℕ) → s.known ≡ true → mark_errors may_end s ≡ [] → AreBytes s.bytes
     → Sound (length s.bytes + 9) (string g (width s.mark (length s.bytes)) s.bytes) (WidthFits (width s.mark (length s.bytes)) (length s.bytes) × AreBytes s.bytes) 0 d
-string_sound g may_end s d known e h =
-    let first = head g (Given (width s.mark (length s.bytes)) (length s.bytes)) in
-    let sum = length-append first s.bytes in
-    record {
-      bytes = bytes-append first s.bytes (go s.mark s.known known e) h;
-      few = omega (arith, head_short g (Given (width s.mark (length s.bytes)) (length s.bytes)), sum);
-      fits = λ k. (mark_fits may_end s known e (omega (arith, k, sum)), h);
-      low = omega arith;
-    }
-  where
-    go : (m : Mark) (b : Bool) → b ≡ true → (if is_endless m then unless may_end s.mark_place IndicatorNotAllowed else if b then width_errors s.mark_place m (length s.bytes) else []) ≡ [] → AreBytes (head g (Given (width m (length s.bytes)) (length s.bytes)))
-    go Absent b f e = least_bytes g (length s.bytes)
-    go Endless b f e = least_bytes g (length s.bytes)
-    go (Wide w) true f e = width_bytes g s.mark_place (Wide w) (length s.bytes) e
-    go (Wide w) false f e = absurd (let bad : false ≡ true = f in cc)
+string_sound g may_end s d h1 h2 h3 = grind (arith, bytes-append, head_short, least_bytes, length-append, mark_fits, width_bytes)
 
 pub said_sound : (s : Str) (d : ℕ) → s.known ≡ true → string_errors s.lone s ≡ [] → AreBytes s.bytes → SoundNode (length s.bytes + 9) (said_string s) d
 said_sound s d known e h = go (s.lone && is_endless s.mark)
@@ -107,9 +89,7 @@ abbrev pub SoundChunks : Major → ℕ → List Chunk → Type 0
 SoundChunks g most cs = Sound most (flat_map (chunk_bytes g) cs) (ChunksFit cs) 0 0
 
 chunks_in : (g : Major) (first : ℕ) (most : ℕ) (cs : List Chunk) → first < 256 → SoundChunks g most cs → Sound (most + 2) ((first ∷ flat_map (chunk_bytes g) cs) ++ (255 ∷ [])) (ChunksFit cs) 0 0
-chunks_in g first most cs low s =
-    let sum = length-append (first ∷ flat_map (chunk_bytes g) cs) (255 ∷ []) in
-    record { bytes = bytes-append (first ∷ flat_map (chunk_bytes g) cs) (255 ∷ []) (low, s.bytes) (omega arith, tt); few = omega (arith, s.few, sum); fits = λ q. s.fits (omega (arith, q, sum)); low = omega arith }
+chunks_in g first most cs h1 h2 = grind (arith, bytes-append, length-append)
 
 pub chunked_sound : (k : StringKind) (p : ℕ) (cs : List Chunk) (most d : ℕ) → ((g : Major) → SoundChunks g most cs) → SoundNode (most + 2) (chunked_node k p cs) d
 chunked_sound OfBytes p cs most d h = let t = chunks_in ByteString 95 most cs (omega arith) (h ByteString) in record { bytes = t.bytes; few = t.few; fits = t.fits; low = omega arith }
@@ -117,32 +97,7 @@ chunked_sound OfText p cs most d h = let t = chunks_in TextString 127 most cs (o
 
 -- what an array's or a map's head and its end enclose
 pub enclosed_sound : (g : Major) (p : ℕ) (m : Mark) (n : ℕ) (y : List ℕ) (most deep d : ℕ) {Fit : Type 0} → size_errors p m n ≡ [] → n ≤ length y → Sound most y Fit deep d → Sound (most + 10) (head g (argument (size m n) n) ++ y ++ ending (size m n)) (SizeFits (size m n) n × Fit) (suc deep) (suc d)
-enclosed_sound g p m n y most deep d {Fit} e few s = go (size m n) (λ k. size_fits p m n k e) (bytes m e)
-  where
-    bytes : (m : Mark) → size_errors p m n ≡ [] → AreBytes (head g (argument (size m n) n))
-    bytes Absent e = least_bytes g n
-    bytes Endless e = head_bytes g EndlessArgument tt
-    bytes (Wide w) e = width_bytes g p (Wide w) n e
-
-    go : (z : Size) → (n < 2 ^ 64 → SizeFits z n) → AreBytes (head g (argument z n)) → Sound (most + 10) (head g (argument z n) ++ y ++ ending z) (SizeFits z n × Fit) (suc deep) (suc d)
-    go (Fixed w) f h =
-        let one = length-append (head g (Given w n) ++ y) [] in
-        let two = length-append (head g (Given w n)) y in
-        record {
-          bytes = bytes-append (head g (Given w n) ++ y) [] (bytes-append (head g (Given w n)) y h s.bytes) tt;
-          few = omega (arith, s.few, head_short g (Given w n), one, two);
-          fits = λ q. (f (omega (arith, q, few, one, two)), s.fits (omega (arith, q, one, two)));
-          low = omega (arith, s.low);
-        }
-    go EndlessSize f h =
-        let one = length-append (head g EndlessArgument ++ y) (255 ∷ []) in
-        let two = length-append (head g EndlessArgument) y in
-        record {
-          bytes = bytes-append (head g EndlessArgument ++ y) (255 ∷ []) (bytes-append (head g EndlessArgument) y h s.bytes) (omega arith, tt);
-          few = omega (arith, s.few, one, two);
-          fits = λ q. (f (omega (arith, q, few, one, two)), s.fits (omega (arith, q, one, two)));
-          low = omega (arith, s.low);
-        }
+enclosed_sound g p m n y most deep d h1 h2 h3 = grind (arith, bytes-append, head_bytes, head_short, least_bytes, length-append, size_fits, width_bytes)
 
 -- at most so many, and so more
 pub within : {most more : ℕ} {y : List ℕ} {Fit : Type 0} {deep limit : ℕ} → most ≤ more → Sound most y Fit deep limit → Sound more y Fit deep limit

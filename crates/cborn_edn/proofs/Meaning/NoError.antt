@@ -1,7 +1,7 @@
 -- What is known where there is no meaning error: an argument, a count or a length below 2^64 fits its width.
-use Rattle.std.specs.Prelude.{◌≡◌, ◌^◌, ◌<◌, ◌∷◌, ◌++◌, if◌then◌else◌}
-use Rattle.cborn_edn.proofs.Common.{refl, ap, ℕ, List, [], length, Bool, true, false, ltb, cond, ltb-true, and_from, Width, Direct, holds, WidthFits, SizeFits, Mark, Absent, Endless, Wide, Token, Profile, MeaningError, EdnReason, IndicatorTooNarrow, IndicatorNotAllowed, TagTooLarge, width, size, unless, width_errors, size_errors, tag_errors, Str, is_endless, is_nil, mark_errors, IsPiece, text_piece, byte_piece, ArePieces, least_holds}
-use Rattle.cborn_edn.specs.Grammar.{embedded, piece, also}
+use Rattle.std.specs.Prelude.{◌≡◌, ◌^◌, ◌<◌, ◌∷◌, ◌++◌}
+use Rattle.cborn_edn.proofs.Common.{arith, refl, ℕ, List, [], length, Bool, true, and_from, WidthFits, SizeFits, Mark, Token, Profile, MeaningError, EdnReason, width, size, unless, width_errors, size_errors, tag_errors, Str, is_nil, mark_errors, IsPiece, ArePieces}
+use Rattle.cborn_edn.specs.Grammar.{piece, also}
 
 pub no_left : {A : Type 0} (x y : List A) → x ++ y ≡ [] → x ≡ []
 no_left [] y e = refl
@@ -12,50 +12,28 @@ no_right [] y e = e
 no_right (a ∷ x) y e = absurd (let bad : a ∷ (x ++ y) ≡ [] = e in cc)
 
 pub nil_is : {A : Type 0} (l : List A) → is_nil l ≡ true → l ≡ []
-nil_is [] e = refl
-nil_is (s ∷ l) e = absurd (let bad : false ≡ true = e in cc)
+nil_is l h1 = grind arith
 
 -- the test holds
 pub held : (b : Bool) (p : ℕ) (r : EdnReason) → unless b p r ≡ [] → b ≡ true
-held true p r e = refl
-held false p r e = absurd (let bad : record { place = p; reason = r } ∷ [] ≡ [] = e in cc)
-
-pub holds_is : (w : Width) (n : ℕ) → holds w n ≡ true → WidthFits w n
-holds_is Direct n e = ltb-true _ _ e
-holds_is _ n e = ltb-true _ _ e
+held b p r h1 = grind arith
 
 pub width_fits : (p : ℕ) (m : Mark) (n : ℕ) → n < 2 ^ 64 → width_errors p m n ≡ [] → WidthFits (width m n) n
-width_fits p Absent n h e = least_holds n h
-width_fits p Endless n h e = least_holds n h
-width_fits p (Wide w) n h e = holds_is w n (held (holds w n) p IndicatorTooNarrow e)
+width_fits p m n h1 h2 = grind arith
 
 pub size_fits : (p : ℕ) (m : Mark) (n : ℕ) → n < 2 ^ 64 → size_errors p m n ≡ [] → SizeFits (size m n) n
-size_fits p Absent n h e = least_holds n h
-size_fits p Endless n h e = tt
-size_fits p (Wide w) n h e = width_fits p (Wide w) n h e
+size_fits p m n h1 h2 = grind arith
 
 -- a tag number is below 2^64
 pub tag_small : (p : ℕ) (m : Mark) (n : ℕ) → tag_errors p m n ≡ [] → (n < 2 ^ 64) × (width_errors p m n ≡ [])
-tag_small p m n e = go (ltb n (2 ^ 64)) refl e
-  where
-    go : (b : Bool) → ltb n (2 ^ 64) ≡ b → cond b (width_errors p m n) (unless false p TagTooLarge) ≡ [] → (n < 2 ^ 64) × (width_errors p m n ≡ [])
-    go true f e = (ltb-true _ _ f, e)
-    go false f e = absurd (let bad : false ≡ true = held false p TagTooLarge e in cc)
+tag_small p m n h1 = grind arith
 
 -- the length of a string that is known
 pub mark_fits : (may_end : Bool) (s : Str) → s.known ≡ true → mark_errors may_end s ≡ [] → length s.bytes < 2 ^ 64 → WidthFits (width s.mark (length s.bytes)) (length s.bytes)
-mark_fits may_end s known e h = go s.mark s.known known e
-  where
-    go : (m : Mark) (k : Bool) → k ≡ true → (if is_endless m then unless may_end s.mark_place IndicatorNotAllowed else if k then width_errors s.mark_place m (length s.bytes) else []) ≡ [] → WidthFits (width m (length s.bytes)) (length s.bytes)
-    go Absent k f e = least_holds (length s.bytes) h
-    go Endless k f e = least_holds (length s.bytes) h
-    go (Wide w) true f e = width_fits s.mark_place (Wide w) (length s.bytes) h e
-    go (Wide w) false f e = absurd (let bad : false ≡ true = f in cc)
+mark_fits may_end s h1 h2 h3 = grind arith
 
 known_piece : {p : Profile} {d : ℕ} {x : List Token} {s : Str} {l : List MeaningError} → IsPiece p d x s l → l ≡ [] → s.known ≡ true
-known_piece (text_piece a) e = refl
-known_piece (byte_piece a) e = refl
-known_piece (embedded a end m c) e = ap is_nil e
+known_piece h1 h2 = grind arith
 
 pub known_pieces : {p : Profile} {d : ℕ} {x : List Token} {s : Str} {l : List MeaningError} → ArePieces p d x s l → l ≡ [] → s.known ≡ true
 known_pieces (piece q) e = known_piece q e

@@ -1,7 +1,7 @@
 -- What tokens say without a meaning error: bytes, no more than 64 times the weight of the tokens, whose nodes are within the limit, and fit their widths if the bytes are fewer than 2^64. So the nodes of a text of fewer than 2^56 bytes fit.
 use Rattle.std.specs.Prelude.{◌≡◌, ◌+◌, ◌*◌, ◌≤◌, ◌∷◌, ◌++◌}
-use Rattle.cborn_edn.proofs.Common.{refl, ap, subst, sym, ℕ, List, [], length, true, false, not, inl, arith, flat_map, and_parts, length-append, flat_map-append, Major, Array, Other, Chunk, AreBytes, Given, least, head, is_simple_value, Tree, Trees, Entries, count, count_entries, depth_all, depth_entries, FitsAll, FitsEntries, chunk_bytes, spelled, spelled_all, spelled_entries, ArrayClose, MapClose, ParenClose, Comma, Colon, EmbedClose, Token, Profile, MixedChunks, BadSimple, MeaningError, StringKind, width, same_kind, is_below, tag_errors, is_simple, unless, Str, chunk, mark_errors, string_errors, IsItem, IsPiece, text_piece, byte_piece, ArePieces, AreChunks, first, next, AreItems, last, before, IsContent, empty, ArePairs, last_pair, pair_before, IsFields, no_fields, IsText, nothing, AreModest, token, MapHead, TagHead, bytes-append, simple_value, weigh}
-use Rattle.cborn_edn.specs.Grammar.{number, word, simple, tag, array, map, string, chunked, embedded, piece, also, tight, loose, tight_fields, loose_fields, items}
+use Rattle.cborn_edn.proofs.Common.{ap, subst, sym, ℕ, List, [], length, true, false, not, inl, arith, flat_map, and_parts, length-append, flat_map-append, Major, Array, Other, Chunk, AreBytes, Given, least, head, is_simple_value, Tree, Trees, Entries, count, count_entries, depth_all, depth_entries, FitsAll, FitsEntries, chunk_bytes, spelled, spelled_all, spelled_entries, ArrayClose, MapClose, ParenClose, Comma, Colon, EmbedClose, Token, Profile, MixedChunks, BadSimple, MeaningError, StringKind, width, same_kind, is_below, tag_errors, is_simple, unless, Str, chunk, mark_errors, string_errors, IsItem, IsPiece, text_piece, byte_piece, ArePieces, AreChunks, first, next, AreItems, last, before, IsContent, empty, ArePairs, last_pair, pair_before, IsFields, no_fields, IsText, AreModest, token, MapHead, TagHead, bytes-append, simple_value, weigh}
+use Rattle.cborn_edn.specs.Grammar.{number, word, simple, tag, array, map, string, chunked, embedded, piece, also, tight, loose, tight_fields, loose_fields}
 use Rattle.cborn_edn.proofs.Meaning.NoError.{no_left, no_right, nil_is, known_pieces, held, tag_small, width_fits}
 use Rattle.cborn_edn.proofs.Meaning.Fit.{few_items, few_entries, Sound, SoundNode, SoundChunks, head_short, number_sound, string_sound, said_sound, chunked_sound, enclosed_sound, within, one_more}
 use Rattle.cborn_edn.proofs.Reader.Modest.{modest_left, modest_right, least_bytes, width_bytes}
@@ -147,5 +147,4 @@ module _ {p : Profile} where
 
   -- LAW: what a text says
   pub text_sound : {d : ℕ} {x : List Token} {ts : Trees} → IsText p d x ts [] → AreModest x → SoundAll x ts d
-  text_sound nothing h = record { bytes = tt; few = omega arith; fits = λ k. tt; low = omega arith }
-  text_sound (items is) h = items_sound is h refl
+  text_sound h1 h2 = grind (arith, items_sound)

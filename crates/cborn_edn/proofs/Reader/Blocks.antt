@@ -1,6 +1,6 @@
 -- A block of up to 64 characters at once: how many come before the first of a kind.
 use Rattle.std.specs.Prelude.{◌≡◌, ◌+◌, ◌<◌, ◌≤◌, ◌^◌, ◌%◌, ◌∷◌}
-use Rattle.cborn_edn.proofs.Common.{refl, sym, ap, ap₂, ◌∙◌, subst, ℕ, zero, suc, List, [], length, take, drop, get_or, map, replicate, Bool, true, false, not, cond, eqb, arith, and_parts, and_from, eq-eqb, eqb-true, ne_eqb, cond-true, cond-false, false≢true, take-take, length-map, list_all, prefix_len, Profile, is_white, is_not, TokensBetween}
+use Rattle.cborn_edn.proofs.Common.{refl, sym, ap, ap₂, ◌∙◌, subst, ℕ, zero, suc, List, [], length, take, drop, get_or, map, replicate, Bool, true, false, not, cond, eqb, arith, and_parts, eq-eqb, eqb-true, ne_eqb, cond-true, cond-false, false≢true, take-take, length-map, list_all, prefix_len, Profile, is_white, is_not, TokensBetween}
 use Rattle.std.proofs.lemmas.List.Sums.{prefix_len-le-length}
 use Rattle.std.proofs.lemmas.Simd.{zip2_splat, map-map, mask_l-mod, first_set_mask_l, length-chunk, run_in_chunk_stops}
 use Rattle.std.specs.Simd.Lanes.{zip2, mask_l, top}
@@ -18,14 +18,12 @@ marked width most f p c v each long =
     lanes (d ∷ v) = ap₂ (λ b bs. b ∷ bs) (each d) (lanes v)
 
 pub top_if : (b : Bool) → top 7 (cond b 255 0) ≡ b
-top_if true = refl
-top_if false = refl
+top_if b = grind arith
 
 -- how many elements come before the first that p holds of
 
 before_one : (p : ℕ → Bool) (b : Bool) (c n : ℕ) (x : List ℕ) → p c ≡ b → list_all (λ d. not (p d)) (take n x) ≡ true → list_all (λ d. not (p d)) (take (cond (not b) (1 + n) 0) (c ∷ x)) ≡ true
-before_one p true c n x e h = refl
-before_one p false c n x e h = let one : suc n ≡ 1 + n = omega arith in subst (λ (k : ℕ). list_all (λ d. not (p d)) (take k (c ∷ x)) ≡ true) one (and_from (not (p c)) (list_all (λ d. not (p d)) (take n x)) (ap not e) h)
+before_one p b c n x h1 h2 = grind arith
 
 before : (p : ℕ → Bool) (x : List ℕ) → list_all (λ d. not (p d)) (take (prefix_len (λ c. not (p c)) x) x) ≡ true
 before p [] = refl

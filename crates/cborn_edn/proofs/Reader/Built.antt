@@ -1,13 +1,12 @@
 -- What is shown while a string is built, and after it.
 use Rattle.std.specs.Prelude.{◌≡◌, ◌-◌, ◌∷◌, ◌++◌, ◌&&◌}
-use Rattle.cborn_edn.proofs.Common.{refl, sym, ap, ◌∙◌, subst, ℕ, List, length, take, drop, Bool, true, false, Option, Some, None, append-nil, append_assoc, arith, take-append_seam, drop-append_seam, length-append, take_rest, same_Some, Speller, Mark, MeaningError, StringKind, OfBytes, OfText, Str, is_nil, same_kind, unless, string_errors, chunk_errors, piece_errors, MixedChunks, first_error, Notes, Span, Piece, Pieces, Strings, strings, StringsBefore, no_string, after_strings, string, chunked, str, str_of, kind_in, faults_of_pieces, faults_of_strings, Here, Writer, Joint, Chunks, Has, Builds, WantsChunk, noted, strings_noted, noted_stack, noted_home, stack_of, bytes_around, bytes_around_home, bytes_before, piece_bytes, pieces_bytes, joint, kind_before, kind_or, Shows, piece_of, Holds, states_around, AllHanded, Reads, Stack, Home, as_item, as_chunk, has, builds, wants_chunk, with_piece, at_home, State, stack_in, string_in, chunks_in, bytes_open, IsOpenAt, level_of, count_of, brackets_of, arounds_of, phase_of}
+use Rattle.cborn_edn.proofs.Common.{refl, sym, ap, ◌∙◌, subst, ℕ, List, length, take, drop, Bool, true, false, Option, Some, None, append-nil, append_assoc, arith, take-append_seam, drop-append_seam, length-append, take_rest, same_Some, Speller, Mark, MeaningError, StringKind, OfText, Str, is_nil, same_kind, string_errors, chunk_errors, piece_errors, first_error, Notes, Span, Piece, Pieces, Strings, strings, StringsBefore, after_strings, string, chunked, str, kind_in, faults_of_pieces, faults_of_strings, Here, Writer, Joint, Chunks, Has, Builds, WantsChunk, noted, strings_noted, noted_stack, noted_home, stack_of, bytes_around, bytes_around_home, bytes_before, piece_bytes, pieces_bytes, joint, kind_before, kind_or, Shows, piece_of, Holds, states_around, AllHanded, Reads, Stack, Home, as_item, as_chunk, has, builds, wants_chunk, with_piece, at_home, State, stack_in, string_in, chunks_in, bytes_open, IsOpenAt, level_of, count_of, brackets_of, arounds_of, phase_of}
 use Rattle.cborn_edn.proofs.Reader.Joints.{known_joint}
 use Rattle.cborn_edn.proofs.Reader.Showing.{Standing, standing, first_joint, bytes_same, piece_str}
 
 -- the bytes with one more piece, which may be the first
 bytes_with : (l : List ℕ) (o : Option Pieces) (p : Piece) → (l ++ bytes_before o) ++ piece_bytes p ≡ l ++ pieces_bytes (with_piece o p)
-bytes_with l None p = ap (λ y. y ++ piece_bytes p) (append-nil l)
-bytes_with l (Some ps) p = append_assoc l (pieces_bytes ps) (piece_bytes p)
+bytes_with l o p = grind (arith, append-nil, append_assoc)
 
 module _ (here : Here) (w : Writer) (h : Home) (k : StringKind) (place : ℕ) (m : Mark) (q : Bool) (a : Span) (x base : List ℕ) (p : place ≡ a.start) (e : w.pieces.items ≡ base ++ x) where
   abbrev pub the_piece : Piece
@@ -31,40 +30,22 @@ module _ (here : Here) (w : Writer) (h : Home) (k : StringKind) (place : ℕ) (m
 
   pub first_added : (o : Option Pieces) (lone : Bool) → w.string ≡ None → (k ≡ OfText → q ≡ true) → ((y : List ℕ) → length w.pieces.items - w.start ≡ length y → lone ≡ (q && is_nil y)) → Shows here w base (at_home h o)
       → Shows (record here { phase = Builds }) (record w { string = Some (record { kind = k; place = place; mark = m; mark_place = place; lone = lone; known = true }) }) w.pieces.items (builds h (with_piece o the_piece))
-  first_added None lone none t l shows =
-      let s = standing here w h None base shows in
-      let size : length w.pieces.items - w.start ≡ length x = omega (arith, ap length e, length-append base x, s.home.start, ap length (s.pieces ∙ append-nil (bytes_around_home h))) in
-      added None _ w.error s (first_joint k a q lone x m place p t (l x size)) (s.error ∙ ap (λ y. first_error (noted_home h ++ y)) (sym (piece_str k a q x m).1))
-  first_added (Some ps) lone none t l shows = absurd (let bad : None ≡ Some (joint (str ps)) = sym none ∙ (standing here w h (Some ps) base shows).string in cc)
+  first_added o lone h1 h2 h3 h4 = grind (arith, added, append-nil, first_joint, length-append, piece_str, standing)
 
   pub next_added : (o : Option Pieces) (j : Joint) (new : Option MeaningError) → w.string ≡ Some j → ((s t : Str) → j ≡ joint s → k ≡ t.kind → place ≡ t.place → Notes w.error new (piece_errors s t)) → Shows here w base (at_home h o)
       → Shows (record here { phase = Builds }) (record w { string = Some (record { kind = j.kind; place = j.place; mark = m; mark_place = place; lone = false; known = j.known }); error = new }) w.pieces.items (builds h (with_piece o the_piece))
-  next_added None j new some noted shows = absurd (let bad : None ≡ Some j = sym (standing here w h None base shows).string ∙ some in cc)
-  next_added (Some ps) j new some noted shows =
-      let s = standing here w h (Some ps) base shows in
-      let t = str_of the_piece in
-      let f = piece_str k a q x m in
-      let is : j ≡ joint (str ps) = same_Some _ _ (sym some ∙ s.string) in
-      let n = noted (str ps) t is f.5 (p ∙ f.6) (noted_home h ++ faults_of_pieces ps) s.error in
-      added (Some ps) _ new s (known_joint j (str ps) is t place m f.2 f.3 (f.4 ∙ sym p))
-      (n ∙ ap first_error (append_assoc (noted_home h) (faults_of_pieces ps) (piece_errors (str ps) t)) ∙ ap (λ y. first_error (noted_home h ++ (faults_of_pieces ps ++ (y ++ piece_errors (str ps) t)))) (sym f.1))
+  next_added o j new h1 h2 h3 = grind (arith, added, append_assoc, known_joint, piece_str, same_Some, standing)
 
 -- the kind of the chunks
 kind_first : (b : StringsBefore) (ps : Pieces) → kind_or (kind_before b) (str ps).kind ≡ kind_in (strings b ps)
-kind_first no_string ps = refl
-kind_first (after_strings ss c) ps = refl
+kind_first b ps = grind arith
 
 pub same_same : (k : StringKind) → same_kind k k ≡ true
-same_same OfBytes = refl
-same_same OfText = refl
+same_same k = grind arith
 
 -- the meaning errors of one more chunk
 more_noted : (l : List MeaningError) (b : StringsBefore) (ps : Pieces) (k : StringKind) → k ≡ kind_in (strings b ps) → l ++ strings_noted b ++ faults_of_pieces ps ++ chunk_errors k (str ps) ≡ l ++ faults_of_strings (strings b ps)
-more_noted l no_string ps k e =
-    ap (λ x. x ++ faults_of_pieces ps ++ chunk_errors k (str ps)) (append-nil l) ∙ append_assoc l (faults_of_pieces ps) (chunk_errors k (str ps)) ∙ ap (λ x. l ++ (faults_of_pieces ps ++ x)) (ap (λ x. chunk_errors x (str ps)) e ∙ ap (λ b. unless b (str ps).place MixedChunks ++ string_errors false (str ps)) (same_same (str ps).kind))
-more_noted l (after_strings ss c) ps k e =
-    append_assoc (l ++ faults_of_strings ss) (faults_of_pieces ps) (chunk_errors k (str ps)) ∙ append_assoc l (faults_of_strings ss) (faults_of_pieces ps ++ chunk_errors k (str ps))
-    ∙ ap (λ x. l ++ (faults_of_strings ss ++ (faults_of_pieces ps ++ chunk_errors x (str ps)))) e
+more_noted l b ps k h1 = grind (arith, append-nil, append_assoc, same_same)
 
 -- where a string is open
 module _ {here : Here} {w : Writer} {h : Home} {ps : Pieces} (e : Shows here w w.pieces.items (builds h ps)) where

@@ -1,6 +1,6 @@
 -- What is shown after a bracket that opens, and after one that ends.
 use Rattle.std.specs.Prelude.{◌≡◌, ◌∷◌, ◌++◌, if◌then◌else◌}
-use Rattle.cborn_edn.proofs.Common.{refl, sym, ap, ◌∙◌, subst, ℕ, List, [], length, Bool, true, false, Option, Some, None, append-nil, append_assoc, Tree, trees, spelled_all, top, no_part, OfBytes, IsWritten, Speller, Mark, Absent, MeaningError, is_nil, Str, joined, piece_errors, size_errors, first_error, earlier, is_none, Notes, listed_trees, trees-listed, Span, Item, embedded, Pieces, row, Content, loose, tight, pairs, Fields, loose_fields, tight_fields, no_item, node, str, str_of, nodes_before, nodes_in, faults, faults_in, faults_of_pieces, noted, noted_stack, noted_home, stack_of, stack_in, bracket, brackets_of, brackets_home, around, arounds_of, arounds_home, bytes_around, bytes_around_home, bytes_before, piece_bytes, pieces_bytes, joint, Shows, content_state, fields_state, entries_at, states_around, states_around_nest, Handed, IsSpelled, Here, Writer, OpenBracket, Around, Joint, Has, Builds, Wants, Stack, in_row, Nest, in_embed, Home, State, wants, has, builds, with_piece, at_home, Embedded}
+use Rattle.cborn_edn.proofs.Common.{arith, refl, sym, ap, ◌∙◌, subst, ℕ, List, [], length, Bool, true, false, Option, Some, None, append-nil, append_assoc, Tree, trees, spelled_all, top, no_part, OfBytes, IsWritten, Speller, Mark, Absent, MeaningError, is_nil, Str, joined, piece_errors, size_errors, first_error, earlier, is_none, Notes, listed_trees, trees-listed, Span, Item, embedded, Pieces, Content, Fields, no_item, str, str_of, nodes_in, faults, faults_in, faults_of_pieces, noted_stack, noted_home, stack_of, stack_in, bracket, brackets_of, brackets_home, around, arounds_of, arounds_home, bytes_around, bytes_around_home, bytes_before, piece_bytes, pieces_bytes, joint, Shows, content_state, fields_state, entries_at, states_around, states_around_nest, Handed, IsSpelled, Here, Writer, OpenBracket, Around, Joint, Has, Builds, Wants, Stack, in_row, Nest, in_embed, Home, State, wants, has, builds, with_piece, at_home, Embedded}
 use Rattle.cborn_edn.proofs.Meaning.NoError.{nil_is}
 use Rattle.cborn_edn.proofs.Meaning.Earliest.{earlier_noted, none_first}
 use Rattle.cborn_edn.proofs.Reader.Showing.{brackets_same, arounds_same, bytes_same, standing}
@@ -13,40 +13,20 @@ Shut here w next mid f = (g : OpenBracket) (gs : List OpenBracket) → w.bracket
 
 -- the states around what ends
 pub content_states : (n : Nest) (c : Content) → states_around (stack_in (content_state n c)) ≡ states_around_nest n
-content_states n (loose b) = refl
-content_states n (tight (row b i)) = refl
+content_states n c = grind arith
 
 pub fields_states : (st : Stack) (s : Span) (m : Mark) (c : Fields) → states_around (stack_in (fields_state st s m c)) ≡ states_around st
-fields_states st s m (loose_fields b) = refl
-fields_states st s m (tight_fields (pairs b k d v)) = refl
+fields_states st s m c = grind arith
 
 -- a bracket ends, and the item i is whole
 pub closed : (here next : Here) (w mid : Writer) (new : Option MeaningError) (ps : List Speller) (f : OpenBracket) (st : Stack) (p k : ℕ) (m : Mark) (es : List MeaningError) (i : Item) → AtEnd here w w.pieces.items k (bracket st p m ∷ brackets_of st) (arounds_of st) es (bytes_around st) → Shut here w next mid f
     → new ≡ first_error (noted_stack st ++ faults i) → Shows next (record mid { error = new; spellers = ps }) mid.pieces.items (has st i)
-closed here next w mid new ps f st p k m es i q shut error =
-    let t = shut (bracket st p m) (brackets_of st) q.brackets in
-    record {
-      phase = ap (λ (y : Here). y.phase) t.2;
-      level = ap (λ (y : Here). y.level) t.2;
-      count = ap (λ (y : Here). y.count) t.2;
-      brackets = ap (λ (y : Writer). y.brackets) t.1;
-      around = ap (λ (y : Writer). y.around) t.1 ∙ q.around;
-      string = ap (λ (y : Writer). y.string) t.1 ∙ q.string;
-      chunks = ap (λ (y : Writer). y.chunks) t.1 ∙ q.chunks;
-      simple = tt;
-      error = error;
-      start = ap (λ (y : Writer). y.start) t.1 ∙ q.start;
-      pieces = ap (λ (y : Writer). y.pieces.items) t.1 ∙ q.pieces;
-    }
+closed here next w mid new ps f st p k m es i h1 h2 h3 = grind arith
 
 -- an array or a map ends, and what is wrong with its indicator is noted
 pub closed_sized : (here next : Here) (w mid : Writer) (new : Option MeaningError) (ps : List Speller) (f : OpenBracket) (n : ℕ) (st : Stack) (p k : ℕ) (m : Mark) (es : List MeaningError) (i : Item) → AtEnd here w w.pieces.items k (bracket st p m ∷ brackets_of st) (arounds_of st) (noted_stack st ++ es) (bytes_around st)
     → Shut here w next mid f → n ≡ entries_at here.phase here.count → Notes mid.error new (size_errors f.place f.mark n) → faults i ≡ es ++ size_errors p m k → Shows next (record mid { error = new; spellers = ps }) mid.pieces.items (has st i)
-closed_sized here next w mid new ps f n st p k m es i q shut many noted is =
-    let t = shut (bracket st p m) (brackets_of st) q.brackets in
-    let note : Notes mid.error new (size_errors p m k) = subst (λ j. Notes mid.error new (size_errors p m j)) (many ∙ q.count) (subst (λ (y : OpenBracket). Notes mid.error new (size_errors y.place y.mark n)) t.0 noted) in
-    closed here next w mid new ps f st p k m (noted_stack st ++ es) i q shut
-    (note (noted_stack st ++ es) (ap (λ (y : Writer). y.error) t.1 ∙ q.error) ∙ ap first_error (append_assoc (noted_stack st) es (size_errors p m k)) ∙ ap (λ l. first_error (noted_stack st ++ l)) (sym is))
+closed_sized here next w mid new ps f n st p k m es i h1 h2 h3 h4 h5 = grind (arith, append_assoc, closed)
 
 -- a `<<` opens
 pub embed_kept : (here next : Here) (w left : Writer) (ps : List Speller) (h : Home) (o : Option Pieces) (a : Span) (place from : ℕ) (all : List Around) → place ≡ a.start → from ≡ length w.pieces.items → all ≡ record { start = w.start; string = w.string; chunks = w.chunks; error = w.error } ∷ w.around
@@ -70,15 +50,11 @@ embed_kept here next w left ps h o a place from all p n k f l e =
 
 -- what a speller wrote of a `<<` without a meaning error
 pub content_spelled : (p : Speller) (h : Home) (o : Option Pieces) (s : Span) (c : Content) → Handed (IsWritten p) (content_state (in_embed h o s) c) → faults_in c ≡ [] → IsWritten p (top (listed_trees (nodes_in c))) no_part
-content_spelled p h o s (loose b) t q = (t q).0
-content_spelled p h o s (tight (row b i)) t q = subst (λ (l : List Tree). IsWritten p (top l) no_part) (sym (listed_snoc (nodes_before b) (node i))) (t q).0
+content_spelled p h o s c h1 h2 = grind (arith, listed_snoc)
 
 -- it has none, if none was noted in it
 pub content_known : (here next : Here) (w mid : Writer) (f : OpenBracket) (h : Home) (o : Option Pieces) (s : Span) (c : Content) → Shut here w next mid f → Shows here w w.pieces.items (content_state (in_embed h o s) c) → is_none mid.error ≡ true → faults_in c ≡ []
-content_known here next w mid f h o s c shut e none =
-    let q = in_content here w w.pieces.items (in_embed h o s) c e in
-    let d = shut (bracket (stack_of h) s.start Absent) (brackets_home h) q.brackets in
-    nil_is (faults_in c) (sym (none_first (faults_in c)) ∙ ap is_none (sym (ap (λ (y : Writer). y.error) d.1 ∙ q.error)) ∙ none)
+content_known here next w mid f h o s c h1 h2 h3 = grind (arith, in_content, nil_is, none_first)
 
 pub spelled_innermost : (all : List Speller) (p : Speller) (ps : List Speller) (s : State) → all ≡ p ∷ ps → IsSpelled all s → Handed (IsWritten p) s
 spelled_innermost all p ps s e t = subst (λ (l : List Speller). IsSpelled l s) e t
@@ -175,5 +151,4 @@ module _ (here next last : Here) (w mid left : Writer) (f : OpenBracket) (x : Ar
       (l.pieces ∙ append_assoc (bytes_around_home h) (pieces_bytes ps) (piece_bytes (embedded s c a m)))
 
   pub closed_embed : (o : Option Pieces) → Handed (IsWritten p) (content_state (in_embed h o s) c) → Shows here w w.pieces.items (content_state (in_embed h o s) c) → Shows last left left.pieces.items (builds h (with_piece o (embedded s c a m)))
-  closed_embed None z e = closed_first z e
-  closed_embed (Some ps) z e = closed_more ps z e
+  closed_embed o h1 h2 = grind (arith, closed_first, closed_more)

@@ -1,6 +1,6 @@
 -- How many items or pairs a bracket has, and how many brackets are open.
 use Rattle.std.specs.Prelude.{◌≡◌, ◌≤◌, ◌++◌, ◌∷◌}
-use Rattle.cborn_edn.proofs.Common.{refl, ap, ℕ, suc, List, [], length, arith, length-append, count, count_entries, Comma, MapOpen, Colon, ChunkOpen, SimpleOpen, Number, Profile, token, row, RowBefore, no_item, after_row, pairs, PairsBefore, no_pair, after_pairs, tokens_of, tokens_of_pieces, tokens_of_row, tokens_of_row_before, tokens_of_pairs, tokens_of_pairs_before, tokens_of_strings_before, node, nodes_before, entries_before, Here, Writer, stack_of, stack_in, count_of, brackets_of, brackets_nest, brackets_home, Shows, Reached, Stack, in_row, in_key, in_value, in_tag, Nest, at_top, in_array, in_embed, Home, as_item, as_chunk, State, wants, has, builds, wants_chunk, wants_number, has_number, held_stack, held_nest, held_home, held, levels, levels_nest, levels_home, open_levels, few}
+use Rattle.cborn_edn.proofs.Common.{refl, ap, ℕ, suc, List, [], length, arith, length-append, count, count_entries, Comma, Colon, Profile, token, row, RowBefore, no_item, after_row, pairs, PairsBefore, no_pair, after_pairs, tokens_of, tokens_of_row, tokens_of_row_before, tokens_of_pairs, tokens_of_pairs_before, node, nodes_before, entries_before, Here, Writer, stack_of, stack_in, count_of, brackets_of, brackets_nest, brackets_home, Shows, Reached, Stack, in_row, in_key, in_value, in_tag, Nest, at_top, in_array, in_embed, Home, as_item, as_chunk, State, held_stack, held_home, held, levels, levels_nest, levels_home, open_levels, few}
 use Rattle.cborn_edn.proofs.Reader.Rows.{count-snoc, count-snoc_entry}
 
 few_before : (b : RowBefore) → count (nodes_before b) ≤ length (tokens_of_row_before b)
@@ -12,24 +12,13 @@ few_pairs no_pair = omega arith
 few_pairs (after_pairs (pairs b k d v) c) = omega (arith, few_pairs b, count-snoc_entry (entries_before b) (node k) (node v), length-append (tokens_of_pairs (pairs b k d v)) (token c Comma ∷ []), length-append (tokens_of_pairs_before b) (tokens_of k ++ (token d Colon ∷ tokens_of v)))
 
 few_in : (st : Stack) → count_of st ≤ length (held_stack st)
-few_in (in_row n b) = omega (arith, few_before b, length-append (held_nest n) (tokens_of_row_before b))
-few_in (in_key st s m b) = omega (arith, few_pairs b, length-append (held_stack st) (token s (MapOpen m) ∷ tokens_of_pairs_before b))
-few_in (in_value st s m b k c) =
-    let rest = tokens_of k ++ (token c Colon ∷ []) in
-    omega (arith, few_pairs b, length-append (held_stack st) (token s (MapOpen m) ∷ (tokens_of_pairs_before b ++ rest)), length-append (tokens_of_pairs_before b) rest)
-few_in (in_tag st s n m) = omega arith
+few_in st = grind (arith, few_before, few_pairs, length-append)
 
 few_home : (h : Home) → count_of (stack_of h) ≤ length (held_home h)
-few_home (as_item st) = few_in st
-few_home (as_chunk st s b) = omega (arith, few_in st, length-append (held_stack st) (token s ChunkOpen ∷ tokens_of_strings_before b))
+few_home h = grind (arith, few_in, length-append)
 
 few_held : (s : State) → count_of (stack_in s) ≤ length (held s)
-few_held (wants st) = few_in st
-few_held (has st i) = omega (arith, few_in st, length-append (held_stack st) (tokens_of i))
-few_held (builds h ps) = omega (arith, few_home h, length-append (held_home h) (tokens_of_pieces ps))
-few_held (wants_chunk st s b) = few_home (as_chunk st s b)
-few_held (wants_number st s) = omega (arith, few_in st, length-append (held_stack st) (token s SimpleOpen ∷ []))
-few_held (has_number st s b n v m) = omega (arith, few_in st, length-append (held_stack st) (token s SimpleOpen ∷ token b (Number n v m) ∷ []))
+few_held s = grind (arith, few_home, few_in, length-append)
 
 -- no more items or pairs than bytes were read
 pub shown_few : (profile : Profile) (limit : ℕ) (text : List ℕ) (here : Here) (w : Writer) (pieces : List ℕ) (s : State) → Reached profile limit text here.at s → Shows here w pieces s → here.count ≤ here.at
@@ -52,10 +41,8 @@ mutual
   home_levels (as_chunk st s b) = stack_levels st
 
 home_brackets : (h : Home) → length (brackets_of (stack_of h)) ≡ levels_home h
-home_brackets (as_item st) = stack_levels st
-home_brackets (as_chunk st s b) = stack_levels st
+home_brackets h = grind (arith, stack_levels)
 
 -- there are as many open brackets as levels
 pub brackets_levels : (s : State) → length (brackets_of (stack_in s)) ≡ open_levels s
-brackets_levels (builds h ps) = home_brackets h
-brackets_levels _ = stack_levels _
+brackets_levels s = grind (arith, home_brackets, stack_levels)

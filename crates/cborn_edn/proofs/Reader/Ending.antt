@@ -1,6 +1,6 @@
 -- The end of a text: its bytes, or why it has none.
 use Rattle.std.specs.Prelude.{◌≡◌, ◌∷◌}
-use Rattle.cborn_edn.proofs.Common.{refl, sym, ap, ◌∙◌, subst, ℕ, List, [], length, Bool, true, false, Option, Some, None, inl, inr, top, no_part, Tree, trees, FitsAll, Speller, HasTokens, Profile, MeaningError, UnexpectedEnd, Refused, IsText, Notates, IsNoNotation, Item, Pieces, string, RowBefore, no_item, after_row, no_pair, after_pairs, row, Input, items, node, nodes_before, nodes_of_input, faults_of_input, Here, Writer, is_none, phase_of, stack_in, level_of, chunks_in, Shows, listed_trees, trees-listed, Holds, Handed, AllHanded, Reads, may_end, Last, item, pieces, AtEnd, Reached, IsReadTo, in_row, in_key, at_top, in_array, in_embed, as_item, as_chunk, State, wants, has, builds, start, finish, at_end, parse, whole_text}
+use Rattle.cborn_edn.proofs.Common.{arith, refl, sym, ap, ◌∙◌, subst, ℕ, List, [], length, Bool, true, false, Option, Some, None, inl, inr, top, no_part, Tree, trees, FitsAll, Speller, HasTokens, Profile, MeaningError, UnexpectedEnd, Refused, IsText, Notates, IsNoNotation, Item, Pieces, string, RowBefore, no_item, after_row, no_pair, after_pairs, row, Input, items, node, nodes_before, nodes_of_input, faults_of_input, Here, Writer, is_none, phase_of, stack_in, level_of, chunks_in, Shows, listed_trees, trees-listed, Holds, Handed, AllHanded, Reads, may_end, Last, item, pieces, AtEnd, Reached, IsReadTo, in_row, in_key, at_top, in_array, in_embed, as_item, as_chunk, State, wants, has, builds, start, finish, at_end, whole_text}
 use Rattle.cborn_edn.specs.devices.Syntax.{nothing}
 use Rattle.cborn_edn.proofs.Grammar.Parser.{Meets, parses}
 use Rattle.cborn_edn.proofs.Meaning.Earliest.{Tells, tells, none_first}
@@ -60,9 +60,7 @@ module _ (p : Profile) (limit : ℕ) (text : List ℕ) (s : State) (r : Reached 
   lex = whole_text p text r.tokens r.between
 
   met : (o : Option Input) → finish s ≡ o → Meets p limit (length text) r.tokens (at_end (length text) o)
-  met o e =
-      let on : parse p limit (length text) r.tokens start ≡ at_end (length text) o = r.stops (length text) ∙ ap (at_end (length text)) e in
-      subst (Meets p limit (length text) r.tokens) on (parses p limit (length text) r.tokens)
+  met o h1 = grind (arith, parses)
 
   pub cut_short : finish s ≡ None → IsNoNotation p limit text (Refused (length text) UnexpectedEnd)
   cut_short e = inl (r.tokens, lex, met None e)

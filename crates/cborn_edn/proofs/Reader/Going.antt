@@ -2,7 +2,6 @@
 use Rattle.std.specs.Prelude.{◌≡◌, ◌+◌, ◌<◌, ◌≤◌, ◌∷◌, ◌++◌, ◌⊎◌}
 use Rattle.cborn_edn.proofs.Common.{refl, sym, ap, ◌∙◌, subst, ℕ, List, [], length, Bool, true, false, cond, leb, Option, Some, None, append_assoc, append-nil, inl, inr, arith, max, le-leb, lt-leb, TokensBetween, HasNoTokens, HasNoTokenFrom, class_of, Kind, Class, Profile, Token, LexFault, AreModest, EdnReason, UnexpectedToken, TooDeep, EdnFault, Refused, Span, span, token, after_row, after_pairs, IsNoNotation, lexical, reach, Phase, WantsMore, phase_of, is_trailing_comma, Reached, ProfileOne as One, ProfileTwo as Two, in_row, in_key, at_top, in_array, in_embed, State, wants, start, step, step_by, held, open_levels, comma_at, Answer, forbids, checked, parse, joins, whole_text, whole_stop, stops}
 use Rattle.cborn_lex.specs.declared.classes.Kind.TheVariants as kinds
-use Rattle.cborn_lex.specs.declared.faults.LexFault.TheVariants.{Refused as LexRefused, OutOfMemory as LexOutOfMemory}
 use Rattle.cborn_lex.proofs.WholeTexts.Progress.{nothing}
 use Rattle.cborn_edn.proofs.Grammar.Held.{deep, commas_held, After, Grows}
 use Rattle.cborn_edn.proofs.Grammar.Grows.{grows}
@@ -16,8 +15,7 @@ begins profile limit text = record { tokens = []; between = nothing profile text
 
 -- what is reported of a text with a lexical fault
 lexical_reported : (profile : Profile) (limit : ℕ) (text : List ℕ) (e : LexFault) → HasNoTokens profile text e → IsNoNotation profile limit text (lexical e)
-lexical_reported profile limit text (LexRefused p r) h = h
-lexical_reported profile limit text LexOutOfMemory h = tt
+lexical_reported profile limit text e h1 = grind arith
 
 clash : {A : Type 0} → true ≡ false → A
 clash e = absurd (let bad : true ≡ false = e in cc)
@@ -93,35 +91,18 @@ module _ (profile : Profile) (limit : ℕ) (text : List ℕ) (at : ℕ) (s : Sta
       syntax t TooDeep fault next (λ more end. r.runs t t.stop next more end ∙ ap (λ c. after_token profile limit end t more c (leb (reach (open_levels s) t.class) limit)) here ∙ ap (λ b. after_token profile limit end t more (Some u) b) high) h
 
 pub free_none : (p : Profile) → forbids p 0 ≡ false
-free_none One = refl
-free_none Two = refl
-
-open_free : (p : Profile) (s : State) (k : Kind) (n : ℕ) (x : List ℕ) → is_closing k ≡ false → forbids p (comma_at s (class_of k n x)) ≡ false
-open_free p (wants st) kinds.ArrayClose n x e = clash e
-open_free p (wants st) kinds.MapClose n x e = clash e
-open_free p (wants st) (kinds.EmbedClose m) n x e = clash e
-open_free p (wants st) _ n x e = free_none p
-open_free p _ k n x e = free_none p
+free_none p = grind arith
 
 -- no bracket ends there after a comma
 pub tight_free : (p : Profile) (s : State) (k : Kind) (n : ℕ) (x : List ℕ) → (phase_of s ≡ WantsMore → ⊥) → forbids p (comma_at s (class_of k n x)) ≡ false
-tight_free p (wants (in_row m (after_row r c))) k n x e = absurd (e refl)
-tight_free p (wants (in_key st s m (after_pairs ps c))) k n x e = absurd (e refl)
-tight_free p _ kinds.ArrayClose n x e = free_none p
-tight_free p _ _ n x e = free_none p
+tight_free p s k n x h1 = grind arith
 
 -- the token is no bracket that ends after a comma
 pub not_trailing : (p : Profile) (s : State) (k : Kind) (n : ℕ) (x : List ℕ) → is_trailing_comma p (phase_of s) k ≡ false → forbids p (comma_at s (class_of k n x)) ≡ false
-not_trailing Two s k n x e = refl
-not_trailing One s k n x e = go (phase_of s) refl e
-  where
-    go : (st : Phase) → phase_of s ≡ st → is_trailing_comma One st k ≡ false → forbids One (comma_at s (class_of k n x)) ≡ false
-    go WantsMore f g = open_free One s k n x g
-    go _ f g = tight_free One s k n x (λ h. apart _ _ (sym f ∙ h) (λ q. omega arith))
+not_trailing p s k n x h1 = grind arith
 
 forbidden : (limit : ℕ) (s : State) (t : Token) (o : Option State) → forbids One (comma_at s t.class) ≡ true → checked One limit s t o ≡ None
-forbidden limit s t None e = refl
-forbidden limit s t (Some u) e = ap (λ b. cond b None (Some u)) e
+forbidden limit s t o h1 = grind arith
 
 -- the token is a bracket that ends after a comma
 pub trailing : (p : Profile) (limit : ℕ) (s : State) (k : Kind) (n start stop : ℕ) (x : List ℕ) → is_trailing_comma p (phase_of s) k ≡ true → let t : Token = record { start = start; stop = stop; class = class_of k n x } in checked p limit s t (step s t) ≡ None

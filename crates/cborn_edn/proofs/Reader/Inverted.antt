@@ -1,6 +1,6 @@
 -- Which state is shown, by the phase and the level.
 use Rattle.std.specs.Prelude.{◌≡◌, ◌<◌}
-use Rattle.cborn_edn.proofs.Common.{refl, sym, ap, ◌∙◌, subst, ℕ, List, length, Bool, true, false, Option, Some, None, arith, Mark, EmbedClose, ParenClose, Comma, Colon, Span, Item, Pieces, row, RowBefore, no_item, after_row, Content, loose, tight, pairs, PairsBefore, no_pair, after_pairs, loose_fields, tight_fields, array, embedded, Phase, Has, Here, Writer, level_of, stack_in, phase_of, brackets_of, Shows, content_state, Sized, of_array, of_map, is_in, is_row, ends_sized, sized_end, MayEnd, Stack, in_row, in_key, in_value, in_tag, Nest, at_top, in_array, in_embed, Home, State, wants, has, builds, with_piece, step_by, never, map_item as map, Level}
+use Rattle.cborn_edn.proofs.Common.{refl, ℕ, List, length, Bool, true, false, Option, Some, None, arith, Mark, EmbedClose, ParenClose, Comma, Colon, Span, Item, Pieces, row, RowBefore, no_item, after_row, Content, loose, tight, pairs, PairsBefore, loose_fields, tight_fields, array, embedded, Phase, Has, Here, Writer, level_of, stack_in, phase_of, Shows, content_state, Sized, of_array, of_map, is_in, is_row, ends_sized, sized_end, MayEnd, Stack, in_row, in_key, in_value, in_tag, Nest, at_top, in_array, in_embed, Home, State, wants, has, builds, with_piece, step_by, never, map_item as map, Level}
 use Rattle.cborn_edn.specs.declared.states.Level.TheVariants as levels
 
 -- a state that may end
@@ -29,14 +29,7 @@ sized_at true u a (whole (in_row at_top b) i) e = never e
 sized_at _ u a _ e = never e
 
 pub no_sized : (m : Bool) (s : State) (a : Span) → Ending s → ends_sized m (phase_of s) (level_of (stack_in s)) ≡ false → step_by s (sized_end m) a ≡ None
-no_sized false u a (wanted (in_row (in_array st p m) b)) e = never (sym e)
-no_sized false u a (whole (in_row (in_array st p m) b) i) e = never (sym e)
-no_sized true u a (wanted (in_key st p m no_pair)) e = never (sym e)
-no_sized true u a (wanted (in_key st p m (after_pairs ps c))) e = never (sym e)
-no_sized true u a (whole (in_value st p m b k c) v) e = never (sym e)
-no_sized true u a (wanted (in_row at_top b)) e = refl
-no_sized true u a (whole (in_row at_top b) i) e = refl
-no_sized _ u a _ e = refl
+no_sized m s a h1 h2 = grind arith
 
 -- a `<<` that may end
 pub embed_at : (s : State) → Ending s → is_in levels.Embedded (level_of (stack_in s)) ≡ true → (h : Home) × (o : Option Pieces) × (at : Span) × (c : Content) × (content_state (in_embed h o at) c ≡ s)
@@ -45,13 +38,10 @@ embed_at u (whole (in_row (in_embed h o p) b) i) e = (h, o, p, tight (row b i), 
 embed_at u _ e = never e
 
 pub embed_step : (h : Home) (o : Option Pieces) (p a : Span) (m : Mark) (c : Content) → step_by (content_state (in_embed h o p) c) (EmbedClose m) a ≡ Some (builds h (with_piece o (embedded p c a m)))
-embed_step h o p a m (loose b) = refl
-embed_step h o p a m (tight (row b i)) = refl
+embed_step h o p a m c = grind arith
 
 pub no_embed : (s : State) (m : Mark) (a : Span) → Ending s → is_in levels.Embedded (level_of (stack_in s)) ≡ false → step_by s (EmbedClose m) a ≡ None
-no_embed u m a (wanted (in_row (in_embed h o p) b)) e = never (sym e)
-no_embed u m a (whole (in_row (in_embed h o p) b) i) e = never (sym e)
-no_embed u m a _ e = refl
+no_embed s m a h1 h2 = grind arith
 
 -- after an item
 pub tag_at : (st : Stack) → is_in levels.Tag (level_of st) ≡ true → (around : Stack) × (at : Span) × (n : ℕ) × (m : Mark) × (in_tag around at n m ≡ st)
@@ -60,9 +50,7 @@ tag_at (in_row at_top b) e = never e
 tag_at _ e = never e
 
 pub no_tag : (st : Stack) (i : Item) (a : Span) → is_in levels.Tag (level_of st) ≡ false → step_by (has st i) ParenClose a ≡ None
-no_tag (in_tag st p n m) i a e = never (sym e)
-no_tag (in_row at_top b) i a e = refl
-no_tag _ i a e = refl
+no_tag st i a h1 = grind arith
 
 pub key_at : (st : Stack) → is_in levels.Key (level_of st) ≡ true → (around : Stack) × (at : Span) × (m : Mark) × (b : PairsBefore) × (in_key around at m b ≡ st)
 key_at (in_key st p m b) e = (st, p, m, b, refl)
@@ -70,9 +58,7 @@ key_at (in_row at_top b) e = never e
 key_at _ e = never e
 
 pub no_key : (st : Stack) (i : Item) (a : Span) → is_in levels.Key (level_of st) ≡ false → step_by (has st i) Colon a ≡ None
-no_key (in_key st p m b) i a e = never (sym e)
-no_key (in_row at_top b) i a e = refl
-no_key _ i a e = refl
+no_key st i a h1 = grind arith
 
 pub value_at : (st : Stack) → is_in levels.Value (level_of st) ≡ true → (around : Stack) × (at : Span) × (m : Mark) × (b : PairsBefore) × (k : Item) × (colon : Span) × (in_value around at m b k colon ≡ st)
 value_at (in_value st p m b k c) e = (st, p, m, b, k, c, refl)
@@ -84,26 +70,13 @@ row_at (in_row n b) e = (n, b, refl)
 row_at _ e = never e
 
 pub no_comma : (st : Stack) (i : Item) (a : Span) → is_in levels.Value (level_of st) ≡ false → is_row (level_of st) ≡ false → step_by (has st i) Comma a ≡ None
-no_comma (in_row at_top b) i a e f = never (sym f)
-no_comma (in_row (in_array st s m) b) i a e f = never (sym f)
-no_comma (in_row (in_embed h o s) b) i a e f = never (sym f)
-no_comma (in_value st p m b k c) i a e f = never (sym e)
-no_comma _ i a e f = refl
-
--- a bracket of a known kind is open
-brackets_open : (st : Stack) → (level_of st ≡ levels.Outside → ⊥) → 0 < length (brackets_of st)
-brackets_open (in_row at_top b) n = absurd (n refl)
-brackets_open _ n = omega arith
+no_comma st i a h1 h2 = grind arith
 
 pub is_open : (f : Level → Bool) (here : Here) (w : Writer) (out : List ℕ) (s : State) → f levels.Outside ≡ false → f here.level ≡ true → Shows here w out s → 0 < length w.brackets
-is_open f here w out s none some e =
-    let some_level : level_of (stack_in s) ≡ levels.Outside → ⊥ = λ q. never (sym none ∙ ap f (sym q) ∙ ap f (sym e.level) ∙ some) in
-    subst (λ l. 0 < length l) (sym e.brackets) (brackets_open (stack_in s) some_level)
+is_open f here w out s h1 h2 h3 = grind arith
 
 pub sized_phase : {a : Span} {s u : State} → Sized a s u → phase_of u ≡ Has
-sized_phase (of_array st s m c) = refl
-sized_phase (of_map st s m f) = refl
+sized_phase h1 = grind arith
 
 pub sized_none : (m : Bool) (p : Phase) → ends_sized m p levels.Outside ≡ false
-sized_none true Has = refl
-sized_none _ _ = refl
+sized_none m p = grind arith

@@ -1,6 +1,6 @@
 -- Tokens of numbers, strings and brackets from what was found at a place of a text.
 use Rattle.std.specs.Prelude.{◌≡◌, ◌+◌, ◌<◌, ◌≤◌, ◌∷◌, ◌++◌}
-use Rattle.cborn_edn.proofs.Common.{not-true, opening, opening_character, refl, sym, ap, ◌∙◌, subst, ℕ, List, [], length, take, drop, get_or, Bool, true, false, not, eqb, Some, Ok, arith, append_assoc, append-nil, ne_eqb, eqb-true, false≢true, take-append-drop, length-take-le, drop-drop, Profile, Mark, Absent, Class, Number, TagOpen, Text, EmbedClose, ChunkOpen, begins, is_numeral, is_word, mark_of, signed, list_all, IsUtf8, is_content, is_plain, LettersSoFar, IsRun, IsIndicator, IsMark, IsNumeral, TokensBetween, IsTokenAt, NoPieceAt, IsTextAt, length-append, none_yet, run_more, letters_end}
+use Rattle.cborn_edn.proofs.Common.{not-true, opening, opening_character, refl, sym, ap, ◌∙◌, subst, ℕ, List, [], length, take, drop, get_or, Bool, true, false, not, eqb, Some, Ok, arith, append_assoc, append-nil, ne_eqb, take-append-drop, length-take-le, drop-drop, Profile, Mark, Absent, Class, Number, TagOpen, Text, EmbedClose, ChunkOpen, begins, is_numeral, is_word, mark_of, signed, list_all, IsUtf8, is_content, is_plain, LettersSoFar, IsRun, IsIndicator, IsMark, IsNumeral, TokensBetween, IsTokenAt, NoPieceAt, IsTextAt, length-append, none_yet, run_more, letters_end}
 use Rattle.cborn_lex.specs.Numbers.{integer}
 use Rattle.cborn_lex.specs.Strings.{IsText}
 use Rattle.cborn_lex.specs.Good as good
@@ -14,8 +14,7 @@ numeral negative x mark z n m i r k = let j = judge negative x (Ok n) i in recor
 
 -- what begins with that character
 first : (c : ℕ) (x : List ℕ) → begins (λ d. eqb d c) x ≡ true → x ≡ c ∷ drop 1 x
-first c [] h = absurd (false≢true h)
-first c (d ∷ x) h = ap (λ b. b ∷ x) (eqb-true d c h)
+first c x h1 = grind arith
 
 -- a decimal integer of len digits, and an indicator of size characters after it
 module _ (profile : Profile) (text tail after : List ℕ) (at len size n : ℕ) (m : Mark) (t : tail ≡ drop at text) (a : after ≡ drop len tail) (l : len ≤ length tail) (s : size ≤ length after)
@@ -49,8 +48,7 @@ module _ (profile : Profile) (text tail after : List ℕ) (at len size n : ℕ) 
 
 -- what begins with a comma
 pub before_comma : (x : List ℕ) → begins (λ c. eqb c 44) x ≡ true → (begins (λ c. eqb c 95) x ≡ false) × (begins (λ c. eqb c 40) x ≡ false)
-before_comma [] h = absurd (false≢true h)
-before_comma (c ∷ x) h = let e = eqb-true c 44 h in (rw e refl, rw e refl)
+before_comma x h1 = grind arith
 
 below_signed : (n : ℕ) → 0 < n → signed true n Absent ≡ Number true n Absent
 below_signed n h = let e : eqb n 0 ≡ false = ne_eqb n 0 (λ f. omega (arith, h, f)) in ap (λ b. Number (not b) n Absent) e

@@ -1,6 +1,6 @@
 -- The meaning errors of a string, and of its pieces.
 use Rattle.std.specs.Prelude.{◌≡◌, ◌++◌, ◌&&◌, if◌then◌else◌}
-use Rattle.cborn_edn.proofs.Common.{refl, sym, ap, ◌∙◌, subst, ℕ, List, [], length, Bool, true, false, Option, Mark, StringKind, MeaningError, IndicatorNotAllowed, TextNotUtf8, MixedString, MixedChunks, unless, width_errors, is_absent, is_endless, is_good, may_join, same_kind, Str, joined, piece_errors, mark_errors, string_errors, chunk_errors, Joint, Notes, joint}
+use Rattle.cborn_edn.proofs.Common.{arith, refl, sym, ap, ◌∙◌, subst, ℕ, List, [], length, Bool, true, false, Option, Mark, StringKind, MeaningError, IndicatorNotAllowed, TextNotUtf8, MixedString, MixedChunks, unless, width_errors, is_absent, is_endless, is_good, may_join, same_kind, Str, joined, piece_errors, mark_errors, string_errors, chunk_errors, Joint, Notes, joint}
 use Rattle.cborn_edn.proofs.Meaning.Earliest.{none_noted, both_noted}
 
 abbrev marked : Bool → Bool → Str → List MeaningError → List MeaningError
@@ -15,28 +15,16 @@ module _ (j : Joint) (s : Str) (e : j ≡ joint s) where
       subst (λ b. Notes old new (mark_errors may_end s ++ (if b then unless (is_good s.kind s.bytes) s.place TextNotUtf8 else []))) (sym sure) (both_noted old mid new (mark_errors may_end s) (unless (is_good s.kind s.bytes) s.place TextNotUtf8) first noted)
 
   pub string_unknown : (may_end : Bool) (old new : Option MeaningError) → Notes old new (mark_errors may_end s) → j.known ≡ false → Notes old new (string_errors may_end s)
-  string_unknown may_end old new first k =
-      let sure : s.known ≡ false = sym (ap (λ (x : Joint). x.known) e) ∙ k in
-      subst (λ b. Notes old new (mark_errors may_end s ++ (if b then unless (is_good s.kind s.bytes) s.place TextNotUtf8 else []))) (sym sure) (both_noted old new new (mark_errors may_end s) [] first (none_noted new))
+  string_unknown may_end old new h1 h2 = grind arith
 
   pub mark_endless : (may_end : Bool) (old new : Option MeaningError) → is_endless j.mark ≡ true → Notes old new (unless may_end j.mark_place IndicatorNotAllowed) → Notes old new (mark_errors may_end s)
-  mark_endless may_end old new m h =
-      let sure : is_endless s.mark ≡ true = sym (ap (λ (x : Joint). is_endless x.mark) e) ∙ m in
-      subst (λ b. Notes old new (marked b s.known s (unless may_end s.mark_place IndicatorNotAllowed))) (sym sure) (subst (λ (x : Joint). Notes old new (unless may_end x.mark_place IndicatorNotAllowed)) e h)
+  mark_endless may_end old new h1 h2 = grind arith
 
   pub mark_wide : (may_end : Bool) (size : ℕ) (old new : Option MeaningError) → (s.known ≡ true → size ≡ length s.bytes) → is_endless j.mark ≡ false → j.known ≡ true → Notes old new (width_errors j.mark_place j.mark size) → Notes old new (mark_errors may_end s)
-  mark_wide may_end size old new n m k h =
-      let sure : is_endless s.mark ≡ false = sym (ap (λ (x : Joint). is_endless x.mark) e) ∙ m in
-      let known : s.known ≡ true = sym (ap (λ (x : Joint). x.known) e) ∙ k in
-      subst (λ b. Notes old new (marked b s.known s (unless may_end s.mark_place IndicatorNotAllowed))) (sym sure)
-      (subst (λ b. Notes old new (marked false b s (unless may_end s.mark_place IndicatorNotAllowed))) (sym known) (subst (λ x. Notes old new (width_errors s.mark_place s.mark x)) (n known) (subst (λ (x : Joint). Notes old new (width_errors x.mark_place x.mark size)) e h)))
+  mark_wide may_end size old new h1 h2 h3 h4 = grind arith
 
   pub mark_unknown : (may_end : Bool) (old : Option MeaningError) → is_endless j.mark ≡ false → j.known ≡ false → Notes old old (mark_errors may_end s)
-  mark_unknown may_end old m k =
-      let sure : is_endless s.mark ≡ false = sym (ap (λ (x : Joint). is_endless x.mark) e) ∙ m in
-      let known : s.known ≡ false = sym (ap (λ (x : Joint). x.known) e) ∙ k in
-      subst (λ b. Notes old old (marked b s.known s (unless may_end s.mark_place IndicatorNotAllowed))) (sym sure)
-      (subst (λ b. Notes old old (marked false b s (unless may_end s.mark_place IndicatorNotAllowed))) (sym known) (none_noted old))
+  mark_unknown may_end old h1 h2 = grind (arith, none_noted)
 
   -- a piece after others
   pub piece_noted : (bare fits : Bool) (kind : StringKind) (place : ℕ) (t : Str) (old mid new : Option MeaningError) → kind ≡ t.kind → place ≡ t.place → bare ≡ is_absent j.mark → fits ≡ may_join j.kind kind

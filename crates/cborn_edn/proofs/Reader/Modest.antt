@@ -1,7 +1,6 @@
 -- Tokens as a text has them, heads that are bytes, and the bytes of long integers.
-use Rattle.std.specs.Prelude.{◌≡◌, ◌+◌, ◌*◌, ◌^◌, ◌<◌, ◌≤◌, ◌∷◌, ◌++◌, ◌/◌, ◌%◌}
-use Rattle.cborn_edn.proofs.Common.{refl, sym, subst, ℕ, List, [], Bool, true, false, ltb, arith, ltb-true, ltb-false, le-ltb, AreBytes, Eight, Major, Unsigned, code, holds, least, Given, head, Mark, Absent, Endless, Wide, Token, AreModest, IndicatorTooNarrow, width, width_errors, least_holds, head_bytes, ap, ◌∙◌, append_assoc, digits_of, digits_of_step}
-use Rattle.cborn_edn.proofs.Meaning.NoError.{held, holds_is}
+use Rattle.std.specs.Prelude.{◌≡◌, ◌^◌, ◌<◌, ◌≤◌, ◌∷◌, ◌++◌, ◌/◌, ◌%◌}
+use Rattle.cborn_edn.proofs.Common.{ℕ, List, [], arith, AreBytes, Eight, Major, least, Given, head, Mark, Token, AreModest, width, width_errors, append_assoc, digits_of, digits_of_step}
 
 -- what is known of the tokens between two places of a text
 pub modest_left : (x y : List Token) → AreModest (x ++ y) → AreModest x
@@ -17,32 +16,13 @@ modest_both [] y h k = k
 modest_both (t ∷ x) y h k = (h.0, modest_both x y h.1 k)
 
 pub least_is_eight : (n : ℕ) → 2 ^ 32 ≤ n → least n ≡ Eight
-least_is_eight n h =
-    let a : ltb n 24 ≡ false = le-ltb n 24 (omega arith) in
-    let b : ltb n 256 ≡ false = le-ltb n 256 (omega arith) in
-    let c : ltb n (2 ^ 16) ≡ false = le-ltb n (2 ^ 16) (omega arith) in
-    let d : ltb n (2 ^ 32) ≡ false = le-ltb n (2 ^ 32) (omega arith) in
-    rw (a, b, c, d) refl
+least_is_eight n h = grind arith
 
 pub least_bytes : (k : Major) (n : ℕ) → AreBytes (head k (Given (least n) n))
-least_bytes k n = go (ltb n (2 ^ 64)) refl
-  where
-    eight : (k : Major) → AreBytes (head k (Given Eight n))
-    eight k = (first k, (omega arith, (omega arith, (omega arith, (omega arith, (omega arith, (omega arith, (omega arith, (omega arith, tt)))))))))
-      where
-        first : (k : Major) → 32 * code k + 27 < 256
-        first Unsigned = omega arith
-        first _ = omega arith
-
-    go : (b : Bool) → ltb n (2 ^ 64) ≡ b → AreBytes (head k (Given (least n) n))
-    go true e = head_bytes k (Given (least n) n) (least_holds n (ltb-true _ _ e))
-    go false e = subst (λ w. AreBytes (head k (Given w n))) (sym (least_is_eight n (let many = ltb-false n (2 ^ 64) e in omega (arith, many)))) (eight k)
+least_bytes k n = grind arith
 
 pub width_bytes : (k : Major) (p : ℕ) (m : Mark) (n : ℕ) → width_errors p m n ≡ [] → AreBytes (head k (Given (width m n) n))
-width_bytes k p Absent n e = least_bytes k n
-width_bytes k p Endless n e = least_bytes k n
-width_bytes k p (Wide w) n e = head_bytes k (Given w n) (holds_is w n (held (holds w n) p IndicatorTooNarrow e))
+width_bytes k p m n h1 = grind arith
 
 pub one_digit : (x y z : List ℕ) (n : ℕ) → 0 < n → y ≡ x ++ digits_of 256 (n / 256) → z ≡ y ++ n % 256 ∷ [] → z ≡ x ++ digits_of 256 n
-one_digit x y z n h e f =
-    f ∙ ap (λ l. l ++ n % 256 ∷ []) e ∙ append_assoc x (digits_of 256 (n / 256)) (n % 256 ∷ []) ∙ ap (λ l. x ++ l) (sym (digits_of_step 256 n (omega arith) h))
+one_digit x y z n h1 h2 h3 = grind (arith, append_assoc, digits_of_step)

@@ -1,24 +1,14 @@
 -- A string that no other piece follows is an item.
 use Rattle.std.specs.Prelude.{◌≡◌, ◌∷◌, ◌++◌}
-use Rattle.cborn_edn.proofs.Common.{refl, sym, ap, ◌∙◌, ℕ, List, [], length, cond, leb, Option, Some, None, is_utf8-from_IsUtf8, IsUtf8, least, Absent, Profile, Token, MeaningError, unless, TextNotUtf8, first_error, reach, Span, span, Item, Pieces, piece, text, string, node, faults, NoPieceAt, noted_stack, Reached, TextNode, Stack, in_row, at_top, as_item, State, has, builds, step, levels, comma_at, finish, at_end, checked, forbids, parse, EndsPieces}
-use Rattle.cborn_edn.proofs.Reader.Going.{after_token}
+use Rattle.cborn_edn.proofs.Common.{arith, sym, ap, ◌∙◌, ℕ, List, length, Option, is_utf8-from_IsUtf8, IsUtf8, least, Absent, Profile, Token, MeaningError, unless, TextNotUtf8, first_error, Span, Item, Pieces, piece, text, string, node, faults, NoPieceAt, noted_stack, Reached, TextNode, Stack, as_item, has, builds, finish, at_end, parse, EndsPieces}
 use Rattle.cborn_edn.proofs.Reader.NextPieces.{next_ends}
-use Rattle.cborn_edn.proofs.Reader.Turning.{ended_same}
 use Rattle.cborn_edn.proofs.Reader.Showing.{same_errors}
 
-checked_same : (p : Profile) (limit : ℕ) (s v : State) (t : Token) (o : Option State) → comma_at s t.class ≡ comma_at v t.class → checked p limit s t o ≡ checked p limit v t o
-checked_same p limit s v t None e = refl
-checked_same p limit s v t (Some u) e = ap (λ n. cond (forbids p n) None (Some u)) e
-
 finish_same : (st : Stack) (ps : Pieces) → finish (builds (as_item st) ps) ≡ finish (has st (string ps))
-finish_same (in_row at_top b) ps = refl
-finish_same _ ps = refl
+finish_same st ps = grind arith
 
 parse_same : (p : Profile) (limit : ℕ) (st : Stack) (ps : Pieces) (t : Token) → EndsPieces t.class → (more : List Token) (end : ℕ) → parse p limit end (t ∷ more) (builds (as_item st) ps) ≡ parse p limit end (t ∷ more) (has st (string ps))
-parse_same p limit st ps t e more end =
-    let from = builds (as_item st) ps in
-    let to = has st (string ps) in
-    ap (λ c. after_token p limit end t more c (leb (reach (levels st) t.class) limit)) (checked_same p limit from to t (step from t) refl ∙ ap (checked p limit to t) (ended_same st ps t.class (span t) e))
+parse_same p limit st ps t h1 more end = grind arith
 
 -- LAW: what the tokens lead to, once the string is whole
 pub settled : (p : Profile) (limit : ℕ) (source : List ℕ) (at : ℕ) (st : Stack) (ps : Pieces) → NoPieceAt source at → Reached p limit source at (builds (as_item st) ps) → Reached p limit source at (has st (string ps))
@@ -36,8 +26,7 @@ abbrev pub text_item : Span → List ℕ → Item
 text_item a x = string (piece (text a x Absent))
 
 pub text_node : (a : Span) (x : List ℕ) → node (text_item a x) ≡ TextNode a.start (least (length x)) x
-text_node a [] = refl
-text_node a (b ∷ x) = refl
+text_node a x = grind arith
 
 -- LAW: it has no meaning error
 pub text_noted : (o : Option MeaningError) (st : Stack) (a : Span) (x : List ℕ) → IsUtf8 x → o ≡ first_error (noted_stack st) → o ≡ first_error (noted_stack st ++ faults (text_item a x))

@@ -1,15 +1,11 @@
 -- What is shown, moved from one state of the machine to the next.
-use Rattle.std.specs.Prelude.{◌≡◌, ◌∷◌, ◌++◌, ◌&&◌, if◌then◌else◌}
-use Rattle.cborn_edn.proofs.Common.{refl, sym, ap, ◌∙◌, subst, ℕ, List, [], length, Bool, true, false, Option, Some, None, append-nil, spelled_all, Mark, StringKind, OfBytes, OfText, is_nil, first_error, Span, Piece, text, bytes, embedded, Pieces, piece, also, str_of, str, nodes_in, faults_of_piece, Here, Writer, Joint, Speller, Holds, AllHanded, Reads, noted_stack, noted_home, pieces_noted, stack_of, level_of, count_of, brackets_of, brackets_home, arounds_of, arounds_home, bytes_around, bytes_around_home, piece_bytes, pieces_bytes, bytes_before, string_at, joint, Shows, piece_of, Home, as_item, as_chunk, State, at_home}
+use Rattle.std.specs.Prelude.{◌≡◌, ◌∷◌, ◌++◌, ◌&&◌}
+use Rattle.cborn_edn.proofs.Common.{arith, refl, sym, ap, ◌∙◌, subst, ℕ, List, [], length, Bool, true, Option, append-nil, Mark, StringKind, OfBytes, OfText, is_nil, first_error, Span, Piece, Pieces, piece, also, str_of, str, faults_of_piece, Here, Writer, Joint, Speller, Holds, AllHanded, noted_home, pieces_noted, stack_of, level_of, count_of, brackets_of, brackets_home, arounds_of, arounds_home, bytes_around, bytes_around_home, piece_bytes, pieces_bytes, bytes_before, string_at, joint, Shows, piece_of, Home, State, at_home}
 use Rattle.cborn_edn.specs.devices.Kept.{chunks_of}
 pub use Rattle.cborn_edn.proofs.Meaning.Earliest.{none_noted as same_errors}
 
 pub moved : (next n : Here) (left l : Writer) (u : State) → next ≡ n → left ≡ l → Shows n l l.pieces.items u → Shows next left left.pieces.items u
 moved next n left l u e f h = subst (λ (w : Writer). Shows next w w.pieces.items u) (sym f) (subst (λ (x : Here). Shows x l l.pieces.items u) (sym e) h)
-
--- what is read then, moved likewise
-pub moved_read : (k : Holds) (next n : Here) (left l : Writer) (u : State) → next ≡ n → left ≡ l → Reads k n l l.pieces.items u → Reads k next left left.pieces.items u
-moved_read k next n left l u e f h = subst (λ (w : Writer). Reads k next w w.pieces.items u) (sym f) (subst (λ (x : Here). Reads k x l l.pieces.items u) (sym e) h)
 
 -- what was handed over, where the spellers and the states around are the same
 pub same_around : (h : Holds) (ps qs : List Speller) (s : State) (ss ts : List State) → qs ≡ ps → ss ≡ ts → AllHanded h ps (s ∷ ss) → AllHanded h qs (s ∷ ts)
@@ -25,16 +21,13 @@ pub record AtHome (here : Here) (writer : Writer) (h : Home) : Type 0 where
   pub start : writer.start ≡ length (bytes_around_home h)
 
 pub brackets_same : (h : Home) → brackets_of (stack_of h) ≡ brackets_home h
-brackets_same (as_item st) = refl
-brackets_same (as_chunk st s b) = refl
+brackets_same h = grind arith
 
 pub arounds_same : (h : Home) → arounds_of (stack_of h) ≡ arounds_home h
-arounds_same (as_item st) = refl
-arounds_same (as_chunk st s b) = refl
+arounds_same h = grind arith
 
 pub bytes_same : (h : Home) → bytes_around (stack_of h) ≡ bytes_around_home h
-bytes_same (as_item st) = refl
-bytes_same (as_chunk st s b) = refl
+bytes_same h = grind arith
 
 -- before a piece of a string, which may be the first
 pub record Standing (here : Here) (writer : Writer) (h : Home) (o : Option Pieces) (written : List ℕ) : Type 0 where
@@ -44,10 +37,7 @@ pub record Standing (here : Here) (writer : Writer) (h : Home) (o : Option Piece
   pub pieces : written ≡ bytes_around_home h ++ bytes_before o
 
 pub standing : (here : Here) (writer : Writer) (h : Home) (o : Option Pieces) (written : List ℕ) → Shows here writer written (at_home h o) → Standing here writer h o written
-standing here writer (as_item st) None written e = record { home = record { level = e.level; count = e.count; brackets = e.brackets; around = e.around; chunks = e.chunks; start = e.start }; string = e.string; error = same_errors writer.error (noted_stack st) e.error; pieces = e.pieces ∙ sym (append-nil (bytes_around st)) }
-standing here writer (as_chunk st s b) None written e = record { home = record { level = e.level; count = e.count; brackets = e.brackets; around = e.around; chunks = e.chunks; start = e.start }; string = e.string; error = same_errors writer.error (noted_home (as_chunk st s b)) e.error; pieces = e.pieces ∙ sym (append-nil (bytes_around st)) }
-standing here writer (as_item st) (Some ps) written e = record { home = record { level = e.level; count = e.count; brackets = e.brackets; around = e.around; chunks = e.chunks; start = e.start }; string = e.string; error = e.error; pieces = e.pieces }
-standing here writer (as_chunk st s b) (Some ps) written e = record { home = record { level = e.level; count = e.count; brackets = e.brackets; around = e.around; chunks = e.chunks; start = e.start }; string = e.string; error = e.error; pieces = e.pieces }
+standing here writer h o written h1 = grind (arith, append-nil, same_errors)
 
 -- what the string of one piece is
 pub piece_str : (k : StringKind) (a : Span) (q : Bool) (x : List ℕ) (m : Mark) → let p = piece_of k a q x m in let t = str_of p in (piece_bytes p ≡ x) × (faults_of_piece p ≡ []) × (t.known ≡ true) × (t.mark ≡ m) × (t.mark_place ≡ a.start) × (k ≡ t.kind) × (a.start ≡ t.place)
@@ -64,14 +54,10 @@ first_joint OfText a q lone x m place p t l =
 
 -- what a string is, where nothing embedded in it has a meaning error
 and_known : (a b : Bool) → (a && b) ≡ true → (a ≡ true) × (b ≡ true)
-and_known true true e = (refl, refl)
-and_known true false e = absurd (let bad : false ≡ true = e in cc)
-and_known false b e = absurd (let bad : false ≡ true = e in cc)
+and_known a b h1 = grind arith
 
 known_piece : (p : Piece) → (str_of p).known ≡ true → piece_bytes p ≡ (str_of p).bytes
-known_piece (text at x m) e = refl
-known_piece (bytes at q x m) e = refl
-known_piece (embedded at c end m) e = ap (λ b. if b then spelled_all (nodes_in c) else []) e
+known_piece p h1 = grind arith
 
 pub known_bytes : (ps : Pieces) → (str ps).known ≡ true → pieces_bytes ps ≡ (str ps).bytes
 known_bytes (piece p) e = known_piece p e

@@ -1,6 +1,6 @@
 -- One token that is read: the reader goes on, or refuses the text.
 use Rattle.std.specs.Prelude.{◌≡◌, ◌^◌, ◌<◌, ◌≤◌, ◌∷◌, ◌++◌, ◌⊎◌}
-use Rattle.cborn_edn.proofs.Common.{refl, sym, ap, ◌∙◌, subst, ℕ, List, [], length, Bool, false, Option, Some, None, arith, inl, inr, AreBytes, TokensBetween, HasNoTokenFrom, class_of, content_of, IsNextBareToken, BareToken, Class, Profile, Token, LexFault, AreModest, EdnReason, UnexpectedToken, TooDeep, EdnFault, Refused, IsNoNotation, lexical, reach, Here, Writer, phase_of, Holds, Reads, Ready, Taken, Takes, is_trailing_comma, IsReadTo, Judged, State, open_levels, checked, few, between_modest}
+use Rattle.cborn_edn.proofs.Common.{refl, sym, ap, ◌∙◌, subst, ℕ, List, [], length, Bool, false, Option, Some, None, arith, inl, inr, AreBytes, TokensBetween, HasNoTokenFrom, class_of, content_of, IsNextBareToken, BareToken, Profile, Token, LexFault, AreModest, EdnReason, UnexpectedToken, TooDeep, EdnFault, Refused, IsNoNotation, lexical, reach, Here, Writer, phase_of, Holds, Reads, Ready, Taken, Takes, is_trailing_comma, IsReadTo, Judged, State, open_levels, checked, few, between_modest}
 use Rattle.cborn_lex.proofs.WholeTexts.Progress.{inside}
 use Rattle.cborn_edn.proofs.Reader.Going.{goes_on, ends, unexpected, too_deep, not_trailing, trailing}
 use Rattle.cborn_edn.proofs.Reader.Counts.{shown_few, brackets_levels}
@@ -10,9 +10,7 @@ same_read here w v out s e = record { shows = (record { phase = e.shows.phase; l
 
 -- where the reader is in the text is no part of what is shown
 pub read_at : {h : Holds} (next : Here) (left : Writer) (out : List ℕ) (u : State) (stop : ℕ) → Reads h next left out u → Reads h (record next { at = stop }) left out u
-read_at next left out u stop r =
-    let e = r.shows in
-    record { shows = record { phase = e.phase; level = e.level; count = e.count; brackets = e.brackets; around = e.around; string = e.string; chunks = e.chunks; simple = e.simple; error = e.error; start = e.start; pieces = e.pieces }; handed = r.handed }
+read_at next left out u stop h1 = grind arith
 
 module _ (p : Profile) (text : List ℕ) (are : AreBytes text) (here : Here) (w : Writer) where
   -- a token that was read
@@ -20,26 +18,12 @@ module _ (p : Profile) (text : List ℕ) (are : AreBytes text) (here : Here) (w 
   ReadToken n v t = (content : List ℕ) × TokensBetween p text here.at t.stop (record { start = t.start; stop = t.stop; class = class_of t.kind n content } ∷ []) × AreModest (record { start = t.start; stop = t.stop; class = class_of t.kind n content } ∷ []) × (v.pieces.items ≡ w.pieces.items ++ content_of (class_of t.kind n content))
 
   pub token_read : (o : Option BareToken) (n : ℕ) (v : Writer) (t : BareToken) → IsNextBareToken p text here.at o n w.pieces.items v.pieces.items → o ≡ Some t → ReadToken n v t
-  token_read o n v t read is =
-      let f = subst (λ (q : Option BareToken). IsNextBareToken p text here.at q n w.pieces.items v.pieces.items) is read in
-      let s = f.2 in
-      let here-is : TokensBetween p text here.at t.stop (record { start = t.start; stop = t.stop; class = class_of t.kind n s.content } ∷ []) = subst (λ (k : Class). TokensBetween p text here.at t.stop (record { start = t.start; stop = t.stop; class = k } ∷ [])) s.class f.1 in
-      let there = between_modest p text here.at t.stop (record { start = t.start; stop = t.stop; class = class_of t.kind n s.content } ∷ []) are here-is in
-      (s.content, here-is, (there.0, tt), s.written ∙ ap (λ (k : Class). w.pieces.items ++ content_of k) s.class)
+  token_read o n v t h1 h2 = grind (arith, between_modest)
 
 module _ {h : Holds} (p : Profile) (limit : ℕ) (text : List ℕ) (are : AreBytes text) (here : Here) (w : Writer) (r : IsReadTo h p limit text here w) where
   -- with nothing left of the text
   pub last_read : (o : Option BareToken) (n : ℕ) (v : Writer) → IsNextBareToken p text here.at o n w.pieces.items v.pieces.items → o ≡ None → IsReadTo h p limit text (record here { at = length text }) (record w { pieces = v.pieces })
-  last_read o n v read is =
-      let f = subst (λ (q : Option BareToken). IsNextBareToken p text here.at q n w.pieces.items v.pieces.items) is read in
-      record {
-        utf8 = r.utf8;
-        small = r.small;
-        inside = omega arith;
-        state = r.state;
-        reached = ends p limit text here.at r.state r.reached f.0;
-        shows = read_at here (record w { pieces = v.pieces }) v.pieces.items r.state (length text) (subst (λ l. Reads h here (record w { pieces = v.pieces }) l r.state) (sym f.1) (same_read here w v w.pieces.items r.state r.shows));
-      }
+  last_read o n v h1 h2 = grind (arith, ends, inside, length, read_at, same_read)
 
   module _ (n : ℕ) (v : Writer) (t : BareToken) (i : ReadToken p text are here w n v t) where
     abbrev the_token : Token

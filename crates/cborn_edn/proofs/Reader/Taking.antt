@@ -1,6 +1,6 @@
 -- Frequent tokens, taken without the lexer: the reader goes on as the machine of tokens does.
-use Rattle.std.specs.Prelude.{◌≡◌, ◌+◌, ◌^◌, ◌<◌, ◌≤◌, ◌∷◌, ◌⊎◌, if◌then◌else◌}
-use Rattle.cborn_edn.proofs.Common.{has_number, sized_end, separator_of, opening, after_opening, phase_of, refl, sym, ap, ◌∙◌, subst, ℕ, zero, suc, List, [], length, Bool, true, false, Some, arith, inl, inr, lt-ltb, AreBytes, IsUtf8, TokensBetween, class_of, Kind, Class, Number, Text, Mark, Absent, Profile, Token, is_small, reach, Span, Item, Pieces, piece, string, StringsBefore, IsTokenAt, IsTextAt, NoPieceAt, Here, Writer, IsModest, AreModest, Holds, Reads, MayEnd, Taken, is_some, IsReadTo, Reached, text as piece_text, Stack, Home, as_item, as_chunk, State, wants, has, builds, wants_number, step_by, open_levels, comma_at, comma_in, forbids, few, between_modest, utf8_bytes}
+use Rattle.std.specs.Prelude.{◌≡◌, ◌^◌, ◌<◌, ◌≤◌, ◌∷◌, ◌⊎◌}
+use Rattle.cborn_edn.proofs.Common.{has_number, sized_end, separator_of, opening, after_opening, phase_of, refl, sym, ap, ◌∙◌, subst, ℕ, List, [], length, Bool, true, false, Some, arith, inl, inr, AreBytes, IsUtf8, TokensBetween, class_of, Kind, Class, Number, Text, Mark, Absent, Profile, Token, reach, Span, Item, Pieces, piece, string, StringsBefore, IsTokenAt, IsTextAt, NoPieceAt, Here, Writer, IsModest, AreModest, Holds, Reads, MayEnd, Taken, is_some, IsReadTo, Reached, text as piece_text, Stack, Home, as_item, as_chunk, State, wants, has, builds, wants_number, step_by, open_levels, comma_at, comma_in, forbids, few, between_modest, utf8_bytes}
 use Rattle.cborn_lex.proofs.WholeTexts.Progress.{inside}
 use Rattle.cborn_lex.specs.declared.classes.Kind.TheVariants as kinds
 use Rattle.cborn_edn.specs.declared.states.Phase.TheVariants as phases
@@ -19,12 +19,7 @@ span_at at stop = record { start = at; stop = stop }
 
 -- LAW: an integer of 64 bits needs no level of its own
 pub number_low : (l limit : ℕ) (n : Bool) (v : ℕ) (m : Mark) → v < 2 ^ 64 → l ≤ limit → reach l (Number n v m) ≤ limit
-number_low l limit n v m small low = subst (λ b. l + (if b then 0 else 1) ≤ limit) (sym (fits n v small)) (omega (arith, low))
-  where
-    fits : (n : Bool) (v : ℕ) → v < 2 ^ 64 → is_small n v ≡ true
-    fits true zero h = refl
-    fits true (suc v) h = lt-ltb v (2 ^ 64) (omega (arith, h))
-    fits false v h = lt-ltb v (2 ^ 64) h
+number_low l limit n v m h1 h2 = grind arith
 
 -- the bracket that ends an array or a map has no content, and no level of its own
 pub sized_kind : (m : Bool) → (k : Kind) × (sized_end m ≡ class_of k 0 [])
@@ -32,29 +27,23 @@ sized_kind true = (kinds.MapClose, refl)
 sized_kind false = (kinds.ArrayClose, refl)
 
 pub sized_low : (m : Bool) (l limit : ℕ) → reach l (sized_end m) ≤ limit
-sized_low true l limit = omega arith
-sized_low false l limit = omega arith
+sized_low m l limit = grind arith
 
 pub separator_low : (m : Bool) (l limit : ℕ) → reach l (separator_of m) ≤ limit
-separator_low true l limit = omega arith
-separator_low false l limit = omega arith
+separator_low m l limit = grind arith
 
 -- a bracket that opens
 pub opened_by : (m : Bool) (st : Stack) (a : Span) (k : Mark) → step_by (wants st) (opening m k) a ≡ Some (wants (after_opening m st a k))
-opened_by true st a k = refl
-opened_by false st a k = refl
+opened_by m st a k = grind arith
 
 pub opened_free : (m : Bool) (st : Stack) (k : Mark) → comma_in st (opening m k) ≡ 0
-opened_free true st k = refl
-opened_free false st k = refl
+opened_free m st k = grind arith
 
 pub opened_low : (m : Bool) (k : Mark) (l limit : ℕ) → l < limit → reach l (opening m k) ≤ limit
-opened_low true k l limit h = omega (arith, h)
-opened_low false k l limit h = omega (arith, h)
+opened_low m k l limit h1 = grind arith
 
 pub opened_wants : (m : Bool) (st : Stack) (a : Span) (k : Mark) → phase_of (wants (after_opening m st a k)) ≡ phases.Wants
-opened_wants true st a k = refl
-opened_wants false st a k = refl
+opened_wants m st a k = grind arith
 
 -- LAW: a token isn't empty
 pub beyond : (p : Profile) (text : List ℕ) (at stop : ℕ) (c : Class) → IsTokenAt p text at stop c → at < stop
@@ -71,9 +60,7 @@ modest_at p text at stop c are tok = (between_modest p text at stop (token_at at
 module _ {h : Holds} {p : Profile} {limit : ℕ} {text : List ℕ} {here : Here} {w : Writer} (r : IsReadTo h p limit text here w) where
   -- LAW: on with white space and comments
   pub skipped : (stop : ℕ) → TokensBetween p text here.at stop [] → IsReadTo h p limit text (record here { at = stop }) w × (here.at ≤ stop)
-  skipped stop white =
-      let within = inside p text here.at stop [] r.inside white in
-      (record { utf8 = r.utf8; small = r.small; inside = within.1; state = r.state; reached = skips p limit text here.at r.state r.reached stop white; shows = read_at here w w.pieces.items r.state stop r.shows }, within.0)
+  skipped stop h1 = grind (arith, inside, read_at, skips)
 
   pub skipped_to : (next : Here) → next ≡ record here { at = next.at } → TokensBetween p text here.at next.at [] → IsReadTo h p limit text next w × (here.at ≤ next.at)
   skipped_to next e white = let s = skipped next.at white in (subst (λ (x : Here). IsReadTo h p limit text x w) (sym e) s.0, s.1)
@@ -87,8 +74,7 @@ module _ {h : Holds} {p : Profile} {limit : ℕ} {text : List ℕ} {here : Here}
   wanted (inr q) = is_wants r.state (inr (sym r.shows.shows.phase ∙ q))
 
   pub may_end : (here.phase ≡ phases.Has) ⊎ (here.phase ≡ phases.Wants) → MayEnd r.state
-  may_end (inl q) = subst MayEnd (is_has r.state (sym r.shows.shows.phase ∙ q)).2 tt
-  may_end (inr q) = subst MayEnd (is_wants r.state (inl (sym r.shows.shows.phase ∙ q))).1 tt
+  may_end h1 = grind arith
 
   pub few_here : here.count < 2 ^ 63
   few_here = omega (arith, r.small, r.inside, shown_few p limit text here w w.pieces.items r.state r.reached r.shows.shows)
@@ -125,8 +111,7 @@ module _ {h : Holds} {p : Profile} {limit : ℕ} {text : List ℕ} {here : Here}
 
     -- from the state that is shown
     pub taken_from : (s u : State) → s ≡ r.state → step_by s c (span_at here.at stop) ≡ Some u → Reads k next left left.pieces.items u → forbids p (comma_at s c) ≡ false → reach (open_levels s) c ≤ limit → IsReadTo k p limit text (record next { at = stop }) left × (here.at < stop)
-    taken_from s u e is shows free low =
-        taken u (subst (λ (v : State). step_by v c (span_at here.at stop) ≡ Some u) e is) shows (subst (λ (v : State). forbids p (comma_at v c) ≡ false) e free) (subst (λ (v : State). reach (open_levels v) c ≤ limit) e low)
+    taken_from s u h1 h2 h3 h4 h5 = grind (arith, taken)
 
     -- LAW: where an item is wanted
     pub item_taken : (here.phase ≡ phases.Wants) ⊎ (here.phase ≡ phases.WantsMore) → (v : Stack → State) → ((st : Stack) → step_by (wants st) c (span_at here.at stop) ≡ Some (v st)) → ((st : Stack) → Reads h here w w.pieces.items (wants st) → Reads k next left left.pieces.items (v st)) → ((st : Stack) → comma_in st c ≡ 0)

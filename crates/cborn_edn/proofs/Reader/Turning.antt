@@ -1,8 +1,6 @@
 -- What one token does, by its kind.
 use Rattle.std.specs.Prelude.{◌≡◌, ◌<◌, ◌≤◌, ◌∷◌, ◌++◌, ◌⊎◌}
-use Rattle.cborn_edn.proofs.Common.{separator_of, true, false, refl, sym, ap, ◌∙◌, subst, ℕ, List, [], length, Bool, true, false, Option, Some, None, append-nil, arith, inl, inr, length-append, Kind, Mark, Class, class_of, content_of, top, no_part, OfBytes, OfText, IsWritten, Speller, Span, Item, Pieces, StringsBefore, string, simple, row, no_item, after_row, Content, loose, tight, pairs, after_pairs, at_home, Here, Writer, Phase, wanting, phase_of, bytes_around_home, bytes_before, stack_in, Shows, content_state, Holds, states_around, states_around_nest, states_around_home, Handed, AllHanded, IsSpelled, Reads, Ready, Turned, Taken, Takes, Turns, EndsPieces, is_some, is_piece, takes_no_piece, Stack, in_row, in_key, in_value, at_top, in_embed, Home, as_item, as_chunk, State, wants, has, builds, wants_chunk, wants_number, has_number, step_by}
-use Rattle.cborn_lex.specs.declared.classes.Kind.TheVariants as kinds
-use Rattle.cborn_lex.specs.declared.classes.Class.TheVariants as classes
+use Rattle.cborn_edn.proofs.Common.{separator_of, true, false, refl, sym, ap, ◌∙◌, subst, ℕ, List, [], length, Bool, true, false, Option, Some, None, append-nil, arith, inl, inr, length-append, Kind, Mark, Class, class_of, content_of, top, no_part, OfBytes, OfText, IsWritten, Speller, Span, Item, Pieces, StringsBefore, row, no_item, after_row, Content, loose, tight, pairs, after_pairs, at_home, Here, Writer, Phase, wanting, phase_of, stack_in, Shows, content_state, Holds, states_around, states_around_nest, states_around_home, Handed, AllHanded, IsSpelled, Reads, Ready, Turned, Taken, Takes, Turns, EndsPieces, is_some, is_piece, takes_no_piece, Stack, in_row, in_key, in_value, at_top, in_embed, Home, as_item, as_chunk, State, wants, has, builds, wants_chunk, wants_number, has_number, step_by}
 use Rattle.cborn_edn.specs.declared.states.Phase.TheVariants as phases
 use Rattle.cborn_edn.specs.devices.Kept.{chunks_of}
 use Rattle.cborn_edn.proofs.HandedOver.Handing.{stays}
@@ -16,9 +14,7 @@ taken_as h ok s c k a next left e t = subst (λ (x : Class). Taken h ok s x a ne
 module _ {h : Holds} (k : Holds) (kind like : Kind) (number place : ℕ) (here next : Here) (writer left : Writer) (ok : Bool) (s : State) (is : kind ≡ like) where
   -- by what was appended
   pub arm : ((x base : List ℕ) (a : Span) → place ≡ a.start → writer.pieces.items ≡ base ++ content_of (class_of like number x) → Reads h here writer base s → Taken k ok s (class_of like number x) a next left) → Takes h k kind number place here writer next left ok s
-  arm f base c a p r =
-      let same : c ≡ class_of like number r.stands.content = r.stands.class ∙ ap (λ (i : Kind). class_of i number r.stands.content) is in
-      taken_as k ok s c (class_of like number r.stands.content) a next left same (f r.stands.content base a p (r.stands.written ∙ ap (λ (y : Class). base ++ content_of y) same) r.shows)
+  arm h1 = grind arith
 
   -- where nothing was
   pub appends_nothing : ((x : List ℕ) → content_of (class_of like number x) ≡ []) → ((x : List ℕ) (a : Span) → place ≡ a.start → Reads h here writer writer.pieces.items s → Taken k ok s (class_of like number x) a next left) → Takes h k kind number place here writer next left ok s
@@ -26,9 +22,7 @@ module _ {h : Holds} (k : Holds) (kind like : Kind) (number place : ℕ) (here n
 
   -- of a token that appends nothing there
   pub turn : ((x : List ℕ) (a : Span) → place ≡ a.start → Reads h here writer writer.pieces.items s → Taken k ok s (class_of like number x) a next left) → Turns h k kind number place here writer next left ok s
-  turn f c x a p e shows =
-      let same : c ≡ class_of like number x = e ∙ ap (λ (i : Kind). class_of i number x) is in
-      taken_as k ok s c (class_of like number x) a next left same (f x a p shows)
+  turn h1 = grind arith
 
 -- The tokens that hand nothing over.
 
@@ -36,8 +30,7 @@ abbrev StaysHanded : Holds → State → Class → Span → Type 0
 StaysHanded h s c a = (ps : List Speller) (u : State) → step_by s c a ≡ Some u → AllHanded h ps (s ∷ states_around (stack_in s)) → AllHanded h ps (u ∷ states_around (stack_in u))
 
 pub still_taken : (h : Holds) (ok : Bool) (s : State) (c : Class) (a : Span) (next : Here) (left : Writer) → StaysHanded h s c a → AllHanded h left.spellers (s ∷ states_around (stack_in s)) → Turned ok s c a next left → Taken h ok s c a next left
-still_taken h true s c a next left f t (u, is, e) = (u, is, record { shows = e; handed = f left.spellers u is t })
-still_taken h false s c a next left f t is = is
+still_taken h ok s c a next left h1 h2 h3 = grind arith
 
 led : (h : Holds) (ps : List Speller) (v u : State) → Some v ≡ Some u → AllHanded h ps (v ∷ states_around (stack_in v)) → AllHanded h ps (u ∷ states_around (stack_in u))
 led h ps v u is = let e : v ≡ u = cc in subst (λ (w : State). AllHanded h ps (w ∷ states_around (stack_in w))) e
@@ -54,13 +47,11 @@ separator_handed h false (in_value st s m b k c) i a ps u is t = led h ps (wants
 separator_handed h false _ i a ps u is t = none_led u is
 
 pub paren_handed : (h : Holds) (st : Stack) (s b : Span) (n : Bool) (v : ℕ) (m : Mark) (c : Class) (a : Span) → StaysHanded h (has_number st s b n v m) c a
-paren_handed h st s b n v m classes.ParenClose a ps u is t = led h ps (has st (simple s b n v m a)) u is (stays h ps (has_number st s b n v m) (has st (simple s b n v m a)) (states_around st) (λ k. handed_close_simple k st s b n v m a) t)
-paren_handed h st s b n v m _ a ps u is t = none_led u is
+paren_handed h st s b n v m c a = grind (arith, handed_close_simple, led, none_led, stays)
 
 -- what was handed over in a `<<`, to its speller
 pub spelled_in : (h : Holds) (ps : List Speller) (s v : State) (ss : List State) → AllHanded h ps (s ∷ v ∷ ss) → IsSpelled ps s
-spelled_in h [] s v ss t = absurd t
-spelled_in h (p ∷ ps) s v ss t = t.0
+spelled_in h ps s v ss h1 = grind arith
 
 pub content_spelled : (h : Holds) (ps : List Speller) (home : Home) (o : Option Pieces) (s : Span) (c : Content) → let u = content_state (in_embed home o s) c in AllHanded h ps (u ∷ states_around (stack_in u)) → IsSpelled ps u
 content_spelled h ps home o s (loose b) t = spelled_in h ps (wants (in_row (in_embed home o s) b)) (at_home home o) (states_around_home home) t
@@ -83,9 +74,7 @@ data Wanting (st : Stack) : Type 0 where
   again : wanting st ≡ phases.WantsMore → Wanting st
 
 wanted : (st : Stack) → Wanting st
-wanted (in_row n (after_row r c)) = again refl
-wanted (in_key st s m (after_pairs ps c)) = again refl
-wanted _ = first refl
+wanted st = grind arith
 
 -- the numbers of the phases, of which no two are the same
 abbrev number : Phase → ℕ
@@ -118,11 +107,6 @@ is_builds (builds h ps) e = (h, ps, refl)
 is_builds (wants st) e = not_wanted st phases.Builds e (omega arith)
 is_builds _ e = apart _ _ e (λ f. omega arith)
 
-is_wants_chunk : (s : State) → phase_of s ≡ phases.WantsChunk → (st : Stack) × (p : Span) × (b : StringsBefore) × (wants_chunk st p b ≡ s)
-is_wants_chunk (wants_chunk st p b) e = (st, p, b, refl)
-is_wants_chunk (wants st) e = not_wanted st phases.WantsChunk e (omega arith)
-is_wants_chunk _ e = apart _ _ e (λ f. omega arith)
-
 pub is_wants_number : (s : State) → phase_of s ≡ phases.WantsNumber → (st : Stack) × (p : Span) × (wants_number st p ≡ s)
 is_wants_number (wants_number st p) e = (st, p, refl)
 is_wants_number (wants st) e = not_wanted st phases.WantsNumber e (omega arith)
@@ -146,32 +130,18 @@ pub not_text : {A : Type 0} → OfBytes ≡ OfText → A
 not_text e = absurd (let bad : OfBytes ≡ OfText = e in cc)
 
 pub taken_same : (h : Holds) (ok : Bool) (s t : State) (k : Class) (a : Span) (next : Here) (left : Writer) → step_by s k a ≡ step_by t k a → Taken h ok t k a next left → Taken h ok s k a next left
-taken_same h true s t k a next left e r = (r.0, e ∙ r.1, r.2)
-taken_same h false s t k a next left e r = e ∙ r
-
--- pieces that are whole are an item
-pub ended_same : (st : Stack) (ps : Pieces) (k : Class) (a : Span) → EndsPieces k → step_by (builds (as_item st) ps) k a ≡ step_by (has st (string ps)) k a
-ended_same st ps (classes.Text x m) a h = absurd h
-ended_same st ps (classes.Bytes q x m) a h = absurd h
-ended_same st ps classes.EmbedOpen a h = absurd h
-ended_same st ps _ a h = refl
+taken_same h ok s t k a next left h1 h2 = grind arith
 
 -- a kind that begins no piece
 pub no_piece : (kind : Kind) (n : ℕ) (x : List ℕ) → is_piece kind ≡ false → EndsPieces (class_of kind n x)
-no_piece (kinds.Text m) n x e = absurd (let bad : true ≡ false = e in cc)
-no_piece (kinds.Bytes q m) n x e = absurd (let bad : true ≡ false = e in cc)
-no_piece kinds.EmbedOpen n x e = absurd (let bad : true ≡ false = e in cc)
-no_piece _ n x e = tt
+no_piece kind n x h1 = grind arith
 
 pub no_content : (kind : Kind) (n : ℕ) (x : List ℕ) → is_piece kind ≡ false → content_of (class_of kind n x) ≡ []
-no_content (kinds.Text m) n x e = absurd (let bad : true ≡ false = e in cc)
-no_content (kinds.Bytes q m) n x e = absurd (let bad : true ≡ false = e in cc)
-no_content _ n x e = refl
+no_content kind n x h1 = grind arith
 
 -- a token that is no piece appends nothing
 pub shown_kind : {holds : Holds} (kind : Kind) (number : ℕ) (here : Here) (writer : Writer) (s : State) (base : List ℕ) (c : Class) → is_piece kind ≡ false → Ready holds kind number here writer s base c → Reads holds here writer writer.pieces.items s
-shown_kind {holds = holds} kind number here writer s base c none r =
-    subst (λ l. Reads holds here writer l s) (sym (r.stands.written ∙ ap (λ (k : Class). base ++ content_of k) r.stands.class ∙ ap (λ l. base ++ l) (no_content kind number r.stands.content none) ∙ append-nil base)) r.shows
+shown_kind kind number here writer s base c h1 h2 = grind (arith, append-nil, no_content)
 
 pub bare_taken : {h : Holds} (k : Holds) (kind : Kind) (number place : ℕ) (here next : Here) (writer left : Writer) (ok : Bool) (t s : State) → is_piece kind ≡ false → t ≡ s → Turns h k kind number place here writer next left ok t → Takes h k kind number place here writer next left ok s
 bare_taken {h = h} k kind number place here next writer left ok t s none e f = subst (λ (u : State). Takes h k kind number place here writer next left ok u) e (λ base c a p r. f c r.stands.content a p r.stands.class (shown_kind kind number here writer t base c none r))
@@ -191,37 +161,11 @@ adding {h = h} kind number place here next writer left s none f base c a p r =
 
 -- the bytes of the innermost string begin in what was read
 pub start_inside : {h : Holds} (kind : Kind) (number : ℕ) (here : Here) (writer : Writer) (s : State) (base : List ℕ) (c : Class) → takes_no_piece here.phase ≡ false → Ready h kind number here writer s base c → writer.start ≤ length writer.pieces.items
-start_inside kind number here writer s base c none r =
-    let d = adds s (ap takes_no_piece (sym r.shows.shows.phase) ∙ none) in
-    let q = standing here writer d.0 d.1 base (subst (λ (u : State). Shows here writer base u) (sym d.2) r.shows.shows) in
-    omega (arith, q.home.start, ap length q.pieces, length-append (bytes_around_home d.0) (bytes_before d.1), ap length r.stands.written, length-append base (content_of c))
+start_inside kind number here writer s base c h1 h2 = grind (arith, adds, length-append, standing)
 
 -- where a chunk is wanted, no other token is taken
 pub no_chunk : (s : State) (c : Class) (a : Span) → phase_of s ≡ phases.WantsChunk → EndsPieces c → step_by s c a ≡ None
-no_chunk s c a e h = let i = is_wants_chunk s e in subst (λ (u : State). step_by u c a ≡ None) i.3 (none i.0 i.1 i.2 c h)
-  where
-    none : (st : Stack) (p : Span) (b : StringsBefore) (c : Class) → EndsPieces c → step_by (wants_chunk st p b) c a ≡ None
-    none st p b (classes.Text x m) h = absurd h
-    none st p b (classes.Bytes q x m) h = absurd h
-    none st p b classes.EmbedOpen h = absurd h
-    none st p b _ h = refl
-
--- where no piece is allowed, the machine takes none
-no_after : (st : Stack) (i : Item) (kind : Kind) (n : ℕ) (x : List ℕ) (a : Span) → is_piece kind ≡ true → step_by (has st i) (class_of kind n x) a ≡ None
-no_after (in_row at_top b) i (kinds.Text m) n x a e = refl
-no_after (in_row at_top b) i (kinds.Bytes q m) n x a e = refl
-no_after (in_row at_top b) i kinds.EmbedOpen n x a e = refl
-no_after _ i (kinds.Text m) n x a e = refl
-no_after _ i (kinds.Bytes q m) n x a e = refl
-no_after _ i kinds.EmbedOpen n x a e = refl
-no_after st i _ n x a e = absurd (let bad : false ≡ true = e in cc)
+no_chunk s c a h1 h2 = grind arith
 
 pub no_piece_taken : (s : State) (kind : Kind) (n : ℕ) (x : List ℕ) (a : Span) → takes_no_piece (phase_of s) ≡ true → is_piece kind ≡ true → step_by s (class_of kind n x) a ≡ None
-no_piece_taken (wants st) kind n x a f e = elim (wanted st) [ first q ↦ absurd (let bad : false ≡ true = sym (ap takes_no_piece q) ∙ f in cc) | again q ↦ absurd (let bad : false ≡ true = sym (ap takes_no_piece q) ∙ f in cc) ]
-no_piece_taken (builds h ps) kind n x a f e = absurd (let bad : false ≡ true = f in cc)
-no_piece_taken (wants_chunk st s b) kind n x a f e = absurd (let bad : false ≡ true = f in cc)
-no_piece_taken (has st i) kind n x a f e = no_after st i kind n x a e
-no_piece_taken _ (kinds.Text m) n x a f e = refl
-no_piece_taken _ (kinds.Bytes q m) n x a f e = refl
-no_piece_taken _ kinds.EmbedOpen n x a f e = refl
-no_piece_taken _ _ n x a f e = absurd (let bad : false ≡ true = e in cc)
+no_piece_taken s kind n x a h1 h2 = grind arith

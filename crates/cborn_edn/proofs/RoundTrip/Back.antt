@@ -1,10 +1,9 @@
 -- What doesn't depend on places: how many nodes there are, and the bytes that they spell. A width that an argument fits is below 2^64.
 use Rattle.std.specs.Prelude.{◌≡◌, ◌^◌, ◌<◌, ◌∷◌, ◌++◌}
-use Rattle.cborn_edn.proofs.Common.{refl, ap, ◌∙◌, ℕ, suc, List, [], arith, flat_map, Width, Eight, ByteString, TextString, Chunk, WidthFits, spelled, spelled_all, spelled_entries, chunk_bytes, Tree, ByteChunks, TextChunks, Items, Tagged, Trees, more, Entries, no_entry, entry, count, count_entries, unplaced_chunks, unplaced, unplaced_all, unplaced_entries, Pairs as PairNode, no_node}
+use Rattle.cborn_edn.proofs.Common.{refl, ap, ◌∙◌, ℕ, suc, List, [], arith, flat_map, Width, ByteString, TextString, Chunk, WidthFits, spelled, spelled_all, spelled_entries, chunk_bytes, Tree, ByteChunks, TextChunks, Items, Tagged, Trees, more, Entries, no_entry, entry, count, count_entries, unplaced_chunks, unplaced, unplaced_all, unplaced_entries, Pairs as PairNode, no_node}
 
 pub below : (w : Width) (n : ℕ) → WidthFits w n → n < 2 ^ 64
-below Eight n h = h
-below _ n h = omega arith
+below w n h1 = grind arith
 
 pub count-unplaced : (ts : Trees) → count (unplaced_all ts) ≡ count ts
 count-unplaced no_node = refl

@@ -1,12 +1,13 @@
 -- Tokens of the fixed notation of nodes, wherever they stand, say these nodes, places aside.
-use Rattle.std.specs.Prelude.{◌≡◌, ◌^◌, ◌≤◌, ◌∷◌, ◌++◌, ◌&&◌, ◌==◌}
-use Rattle.cborn_edn.proofs.Common.{refl, sym, ap, ap₂, ◌∙◌, subst, ℕ, zero, suc, List, [], length, Bool, true, false, ltb, cond, append_assoc, append-nil, arith, IsTrue, is_utf8-from_IsUtf8, lt-ltb, Width, Direct, One, Two, Four, Eight, Size, Fixed, Chunk, Tree, Uint, Nint, ByteChunks, TextChunks, Items, Tagged, Simple, Trees, more, Entries, no_entry, entry, count, count_entries, depth_all, depth_entries, holds, following, least, is_simple_value, WidthFits, SizeFits, ChunksFit, Fits, FitsAll, FitsEntries, Mark, Absent, Endless, Wide, Class, ArrayOpen, ArrayClose, MapOpen, MapClose, ParenClose, Comma, Colon, ChunkOpen, Number, TagOpen, Word, SimpleOpen, Text, Bytes, Token, Profile, IndicatorTooNarrow, IndicatorNotAllowed, MixedChunks, BadSimple, TagTooLarge, TextNotUtf8, MeaningError, StringKind, OfBytes, OfText, span, tokens_of, tokens_of_pieces, tokens_of_strings, tokens_of_content, tokens_of_fields, tokens_of_input, is_endless, width, size, unless, width_errors, size_errors, argument_of, is_small, integer, bignum, is_good, is_absent, string_node, chunked_node, Str, is_nil, quoted, said_string, chunk, string_errors, IsItem, IsPiece, text_piece, byte_piece, AreChunks, first, next, AreItems, last, before, IsContent, empty, ArePairs, last_pair, pair_before, IsFields, no_fields, IsText, nothing, unplaced_token, nowhere, one_piece, chunk_pieces, chunk_row, chunk_item, simple_item, notated, notated_content, notated_fields, notated_input, unplaced_chunks, unplaced, unplaced_all, unplaced_entries, mark_for, mark_for_size, AreTexts, IsShowable, EachShowable, ArePairsShowable, ByteNode, TextNode, Pairs as PairNode, no_node, Span, token, map as list_map, EndlessMark, simple_below, and_false}
+use Rattle.std.specs.Prelude.{◌≡◌, ◌^◌, ◌≤◌, ◌∷◌, ◌++◌, ◌==◌}
+use Rattle.cborn_edn.proofs.Common.{refl, sym, ap, ap₂, ◌∙◌, subst, ℕ, zero, suc, List, [], length, Bool, true, false, ltb, cond, append_assoc, append-nil, arith, IsTrue, is_utf8-from_IsUtf8, lt-ltb, Width, Size, Fixed, Chunk, Tree, Uint, Nint, ByteChunks, TextChunks, Items, Tagged, Simple, Trees, more, Entries, no_entry, entry, count, count_entries, depth_all, depth_entries, following, is_simple_value, WidthFits, SizeFits, ChunksFit, Fits, FitsAll, FitsEntries, Mark, Absent, Endless, Class, ArrayOpen, ArrayClose, MapOpen, MapClose, ParenClose, Comma, Colon, ChunkOpen, Number, TagOpen, Word, SimpleOpen, Text, Bytes, Token, Profile, IndicatorNotAllowed, MixedChunks, BadSimple, TagTooLarge, TextNotUtf8, MeaningError, StringKind, OfBytes, OfText, span, tokens_of, tokens_of_pieces, tokens_of_strings, tokens_of_content, tokens_of_fields, tokens_of_input, is_endless, width, size, unless, width_errors, size_errors, argument_of, is_small, integer, bignum, is_good, is_absent, string_node, chunked_node, Str, quoted, said_string, chunk, string_errors, IsItem, IsPiece, text_piece, byte_piece, AreChunks, first, next, AreItems, last, before, IsContent, empty, ArePairs, last_pair, pair_before, IsFields, no_fields, IsText, nothing, unplaced_token, nowhere, one_piece, chunk_pieces, chunk_row, chunk_item, simple_item, notated, notated_content, notated_fields, notated_input, unplaced_chunks, unplaced, unplaced_all, unplaced_entries, mark_for, mark_for_size, IsShowable, EachShowable, ArePairsShowable, ByteNode, TextNode, Pairs as PairNode, no_node, Span, token, map as list_map, simple_below}
 use Rattle.cborn_model.specs.Tree.{depth}
 use Rattle.cborn_edn.specs.devices.Syntax as tree
 use Rattle.cborn_edn.specs.Grammar.{number, word, simple, tag, array, map, string, chunked, piece, tight, tight_fields, items}
 use Rattle.cborn_edn.proofs.Lexed.NodeTexts.{more_tokens, more_pair_tokens, more_chunk_tokens, row_tokens, chunk_tokens, pair_tokens}
 use Rattle.cborn_edn.proofs.RoundTrip.Back.{below, count-unplaced, count-unplaced_entries}
 use Rattle.cborn_edn.proofs.Short.Rebuilt.{both_parts}
+use Rattle.cborn_edn.proofs.Shown.Characters.{AreGood, bytes_good, texts_good}
 use Rattle.cborn_edn.proofs.Reader.Built.{same_same}
 
 -- Tokens whose classes are known.
@@ -53,45 +54,21 @@ paired x y z w e =
 
 -- The indicator of a width.
 
-holds_true : (w : Width) (n : ℕ) → WidthFits w n → holds w n ≡ true
-holds_true Direct n h = lt-ltb n 24 h
-holds_true One n h = lt-ltb n 256 h
-holds_true Two n h = lt-ltb n (2 ^ 16) h
-holds_true Four n h = lt-ltb n (2 ^ 32) h
-holds_true Eight n h = lt-ltb n (2 ^ 64) h
-
 abbrev as_long : Width → Width → ℕ → Bool
 as_long w v n = length (following w n) == length (following v n)
-
-as_long-same : (w v : Width) (n : ℕ) → as_long w v n ≡ true → v ≡ w
-as_long-same Direct Direct n e = refl
-as_long-same One One n e = refl
-as_long-same Two Two n e = refl
-as_long-same Four Four n e = refl
-as_long-same Eight Eight n e = refl
-as_long-same _ _ n e = absurd (let f : false ≡ true = e in cc)
 
 -- it asks for this width, and for no indefinite length
 abbrev Marks : Width → ℕ → Mark → Type 0
 Marks w n m = (width m n ≡ w) × (size m n ≡ Fixed w) × (is_endless m ≡ false) × ((p : ℕ) → WidthFits w n → width_errors p m n ≡ []) × ((p : ℕ) → WidthFits w n → size_errors p m n ≡ [])
 
 marks : (w : Width) (n : ℕ) → Marks w n (mark_for w n)
-marks w n = go (as_long w (least n) n) refl
-  where
-    narrow : (p : ℕ) → WidthFits w n → unless (holds w n) p IndicatorTooNarrow ≡ []
-    narrow p h = ap (λ b. unless b p IndicatorTooNarrow) (holds_true w n h)
-
-    go : (b : Bool) → as_long w (least n) n ≡ b → Marks w n (cond b Absent (Wide w))
-    go true e = let same = as_long-same w (least n) n e in (same, ap Fixed same, refl, λ p h. refl, λ p h. refl)
-    go false e = (refl, refl, refl, narrow, narrow)
+marks w n = grind arith
 
 size_back : (s : Size) (n : ℕ) → size (mark_for_size s n) n ≡ s
-size_back EndlessMark n = refl
-size_back (Fixed w) n = (marks w n).1
+size_back s n = grind arith
 
 no_size_errors : (p : ℕ) (s : Size) (n : ℕ) → SizeFits s n → size_errors p (mark_for_size s n) n ≡ []
-no_size_errors p EndlessMark n h = refl
-no_size_errors p (Fixed w) n h = (marks w n).4 p h
+no_size_errors p s n h1 = grind arith
 
 -- What tokens say, without a meaning error, is this but for places.
 record Said {S : Type 0} (Is : List Token → S → List MeaningError → Type 0) (aside : S → S) (x : List Token) (s : S) : Type 0 where
@@ -122,47 +99,24 @@ abbrev str_of : StringKind → Span → List ℕ → Mark → Str
 str_of k a b m = quoted k a.start (is_text k) b m
 
 one_token : (k : StringKind) (b : List ℕ) (m : Mark) → tokens_of_pieces (one_piece k b m) ≡ token nowhere (class_of k b m) ∷ []
-one_token OfBytes b m = refl
-one_token OfText b m = refl
+one_token k b m = grind arith
 
 piece_at : {p : Profile} {d : ℕ} (k : StringKind) (a : Span) (b : List ℕ) (m : Mark) → IsPiece p d (token a (class_of k b m) ∷ []) (str_of k a b m) []
-piece_at OfBytes a b m = byte_piece a
-piece_at OfText a b m = text_piece a
+piece_at k a b m = grind (arith, byte_piece, text_piece)
 
 no_string_errors : (e : Bool) (k : StringKind) (a : Span) (w : Width) (b : List ℕ) → WidthFits w (length b) → is_good k b ≡ true → string_errors e (str_of k a b (mark_for w (length b))) ≡ []
-no_string_errors e k a w b h good =
-    let m = mark_for w (length b) in
-    both_parts
-    (ap (λ c. cond c (unless e a.start IndicatorNotAllowed) (width_errors a.start m (length b))) (marks w (length b)).2 ∙ (marks w (length b)).3 a.start h)
-    (ap (λ c. unless c a.start TextNotUtf8) good)
+no_string_errors e k a w b h1 h2 = grind arith
 
 unplaced_string : (k : StringKind) (p : ℕ) (w : Width) (b : List ℕ) → unplaced (string_node k p w b) ≡ string_node k 0 w b
-unplaced_string OfBytes p w b = refl
-unplaced_string OfText p w b = refl
+unplaced_string k p w b = grind arith
 
 unplaced_chunked : (k : StringKind) (p : ℕ) (cs : List Chunk) → unplaced (chunked_node k p cs) ≡ chunked_node k 0 (unplaced_chunks cs)
-unplaced_chunked OfBytes p cs = refl
-unplaced_chunked OfText p cs = refl
+unplaced_chunked k p cs = grind arith
 
 string_is : (k : StringKind) (a : Span) (w : Width) (b : List ℕ) → said_string (str_of k a b (mark_for w (length b))) ≡ string_node k a.start w b
-string_is k a w b =
-    let m = mark_for w (length b) in
-    ap (λ c. cond c (chunked_node k a.start []) (string_node k a.start (width m (length b)) b)) (ap (λ c. (is_text k && is_nil b) && c) (marks w (length b)).2 ∙ and_false (is_text k && is_nil b))
-    ∙ ap (λ v. string_node k a.start v b) (marks w (length b)).0
+string_is k a w b = grind arith
 
 -- Chunks.
-
-abbrev AreGood : StringKind → List Chunk → Type 0
-AreGood k [] = Unit {0}
-AreGood k (c ∷ cs) = (is_good k c.bytes ≡ true) × AreGood k cs
-
-bytes_good : (cs : List Chunk) → AreGood OfBytes cs
-bytes_good [] = tt
-bytes_good (c ∷ cs) = (refl, bytes_good cs)
-
-texts_good : (cs : List Chunk) → AreTexts cs → AreGood OfText cs
-texts_good [] h = tt
-texts_good (c ∷ cs) h = (h.0, texts_good cs h.1)
 
 chunks-append : (cs ds : List Chunk) → unplaced_chunks (cs ++ ds) ≡ unplaced_chunks cs ++ unplaced_chunks ds
 chunks-append [] ds = refl

@@ -1,6 +1,6 @@
 -- What doesn't depend on the places of nodes.
 use Rattle.std.specs.Prelude.{◌≡◌, ◌∷◌, ◌⊎◌, ◌≢◌}
-use Rattle.cborn_edn.proofs.Common.{refl, sym, ap, ◌∙◌, subst, ℕ, suc, List, [], length, true, false, max, Chunk, Tree, ByteChunks, TextChunks, Items, Pairs, Tagged, Trees, more, Entries, no_entry, entry, depth_all, depth_entries, WidthFits, SizeFits, AreBytes, big_endian, ChunksFit, Fits, FitsAll, FitsEntries, spelled_all, unplaced_chunks, unplaced, unplaced_all, unplaced_entries, no_node as no_item, IsUtf8}
+use Rattle.cborn_edn.proofs.Common.{arith, refl, sym, ap, ◌∙◌, subst, ℕ, suc, List, [], length, true, false, max, Chunk, Tree, ByteChunks, TextChunks, Items, Pairs, Tagged, Trees, more, Entries, no_entry, entry, depth_all, depth_entries, WidthFits, SizeFits, AreBytes, big_endian, ChunksFit, Fits, FitsAll, FitsEntries, spelled_all, unplaced_chunks, unplaced, unplaced_all, unplaced_entries, no_node as no_item, IsUtf8}
 use Rattle.cborn_model.specs.Tree.{depth}
 use Rattle.cborn_model.specs.Value.{Value, Values, Couples, bytes, text, array, dict, tagged, no_values, value, no_pairs, pair}
 use Rattle.cborn_model.specs.Valid.{HasNewKeys}
@@ -53,8 +53,7 @@ are_text [] = refl
 are_text (c ∷ cs) = λ i. IsUtf8 c.bytes × are_text cs i
 
 byte_string : (t : Tree) (b : List ℕ) → IsByteString (unplaced t) b ≡ IsByteString t b
-byte_string (ByteChunks p cs) b = λ i. b ≡ joined cs i
-byte_string _ b = refl
+byte_string t b = grind (arith, joined)
 
 mutual
   mean : (t : Tree) (v : Value) → Means (unplaced t) v ≡ Means t v

@@ -1,26 +1,22 @@
 -- The relation holds of the tokens of each tree within a limit.
 use Rattle.std.specs.Prelude.{◌≡◌, ◌+◌, ◌≤◌, ◌∷◌, ◌++◌}
-use Rattle.cborn_edn.proofs.Common.{refl, sym, ap, ◌∙◌, subst, ℕ, zero, suc, List, [], append_assoc, arith, Tree, Trees, Entries, Comma, Colon, Token, Profile, MeaningError, Span, token, Item, Piece, Pieces, Strings, Row, Content, Fields, Input, tokens_of, tokens_of_piece, tokens_of_pieces, tokens_of_strings, tokens_of_row, tokens_of_content, tokens_of_pairs, tokens_of_fields, tokens_of_input, depth, depth_of_piece, depth_of_pieces, depth_of_strings, depth_of_row, depth_of_content, depth_of_pairs, depth_of_fields, depth_of_input, AllowsCount, commas, commas_of_piece, commas_of_pieces, commas_of_strings, commas_of_row, commas_of_content, commas_of_pairs, commas_of_fields, commas_of_input, snoc, snoc_entry, node, str_of, str, kind_in, chunks, nodes, nodes_in, entries_in, faults, faults_of_piece, faults_of_pieces, faults_of_strings, faults_of_row, faults_in, faults_of_pairs, faults_of_fields, nodes_of_input, faults_of_input, IsItem, IsPiece, text_piece, byte_piece, ArePieces, AreChunks, first, next, AreItems, last, before, IsContent, empty, ArePairs, last_pair, pair_before, IsFields, no_fields, IsText, nothing, ProfileOne, ProfileTwo}
+use Rattle.cborn_edn.proofs.Common.{refl, sym, ap, ◌∙◌, subst, ℕ, zero, suc, List, [], append_assoc, arith, Tree, Trees, Entries, Comma, Colon, Token, Profile, MeaningError, Span, token, Item, Piece, Pieces, Strings, Row, Content, Fields, Input, tokens_of, tokens_of_piece, tokens_of_pieces, tokens_of_strings, tokens_of_row, tokens_of_content, tokens_of_pairs, tokens_of_fields, tokens_of_input, depth, depth_of_piece, depth_of_pieces, depth_of_strings, depth_of_row, depth_of_content, depth_of_pairs, depth_of_fields, depth_of_input, AllowsCount, commas, commas_of_piece, commas_of_pieces, commas_of_strings, commas_of_row, commas_of_content, commas_of_pairs, commas_of_fields, commas_of_input, snoc, snoc_entry, node, str_of, str, kind_in, chunks, nodes, nodes_in, entries_in, faults, faults_of_piece, faults_of_pieces, faults_of_strings, faults_of_row, faults_in, faults_of_pairs, faults_of_fields, nodes_of_input, faults_of_input, IsItem, IsPiece, text_piece, byte_piece, ArePieces, AreChunks, first, next, AreItems, last, before, IsContent, empty, ArePairs, last_pair, pair_before, IsFields, no_fields, IsText, nothing, ProfileTwo}
 use Rattle.cborn_edn.specs.devices.Syntax as tree
 use Rattle.cborn_edn.specs.devices.Syntax.{Pairs}
 use Rattle.cborn_edn.specs.devices.Said.{entries}
 use Rattle.cborn_edn.specs.Grammar.{number, word, simple, tag, array, map, string, chunked, embedded, piece, also, tight, loose, tight_fields, loose_fields, items}
 
 pub left_allowed : (p : Profile) (m n : ℕ) → AllowsCount p (m + n) → AllowsCount p m
-left_allowed ProfileOne m n h = omega (arith, h)
-left_allowed ProfileTwo m n h = tt
+left_allowed p m n h1 = grind arith
 
 pub right_allowed : (p : Profile) (m n : ℕ) → AllowsCount p (m + n) → AllowsCount p n
-right_allowed ProfileOne m n h = omega (arith, h)
-right_allowed ProfileTwo m n h = tt
+right_allowed p m n h1 = grind arith
 
 pub both_allowed : (p : Profile) (m n : ℕ) → AllowsCount p m → AllowsCount p n → AllowsCount p (m + n)
-both_allowed ProfileOne m n h k = omega (arith, h, k)
-both_allowed ProfileTwo m n h k = tt
+both_allowed p m n h1 h2 = grind arith
 
 only_two : (p : Profile) (n : ℕ) → AllowsCount p (n + 1) → p ≡ ProfileTwo
-only_two ProfileOne n h = absurd (omega (arith, h))
-only_two ProfileTwo n h = refl
+only_two p n h1 = grind arith
 
 module _ (p : Profile) where
   -- the relation holds of equal tokens and meaning errors
@@ -102,5 +98,4 @@ module _ (p : Profile) where
     derived_fields (tree.tight_fields ps) d h a = tight_fields (derived_pairs ps d h a)
 
   pub derived_input : (t : Input) (d : ℕ) → depth_of_input t ≤ d → AllowsCount p (commas_of_input t) → IsText p d (tokens_of_input t) (nodes_of_input t) (faults_of_input t)
-  derived_input tree.nothing d h a = nothing
-  derived_input (tree.items r) d h a = items (derived_row r d h a)
+  derived_input t d h1 h2 = grind (arith, derived_row, items, nothing)

@@ -73,9 +73,7 @@ pub no_stop : (p : Profile) (limit : ℕ) (text : List ℕ) (nodes : Trees) → 
 no_stop p limit text nodes (x, lex, h) q r s = not_stopped p text x q r lex s
 
 pub no_syntax_error : (p : Profile) (limit : ℕ) (text : List ℕ) (nodes : Trees) → Notates p limit text nodes → (q : ℕ) (r : EdnReason) → HasSyntaxError p limit text q r → ⊥
-no_syntax_error p limit text nodes (x, lex, h) q r (y, lexed, j) =
-    let same : y ≡ x = one_list p text y x lexed lex in
-    not_both p limit (length text) x q r (nodes, [], h) (subst (λ (ts : List Token). IsSyntaxError p limit (length text) ts q r) same j)
+no_syntax_error p limit text nodes h1 q r h2 = grind (arith, not_both, one_list)
 
 pub no_error : (p : Profile) (limit most : ℕ) (text : List ℕ) (nodes : Trees) → Notates p limit text nodes → (q : ℕ) (r : EdnReason) → HasMeaningError p most text q r → ⊥
 no_error p limit most text nodes (x, lex, h) q r (y, ts, l, lexed, k, f) =
@@ -96,8 +94,7 @@ module _ (p : Profile) (limit : ℕ) (text : List ℕ) where
       go (Some s) f = inr (inr (s.place, s.reason, inr (x, ts, l, taken, h, f)))
 
   of_tokens : (x : List Token) → HasTokens p text x → HasTree p limit x ⊎ ((q : ℕ) × (r : EdnReason) × IsSyntaxError p limit (length text) x q r) → Answered p limit text
-  of_tokens x taken (inl (ts, l, h)) = judged x taken ts l h
-  of_tokens x taken (inr (q, r, e)) = inr (inr (q, r, inl (x, taken, e)))
+  of_tokens x h1 h2 = grind (arith, judged)
 
   of_text : ((x : List Token) × HasTokens p text x) ⊎ ((q : ℕ) × (r : LexReason) × FailsAt p text q r) → Answered p limit text
   of_text (inl (x, lex)) = of_tokens x lex (answered p limit (length text) x)

@@ -1,12 +1,11 @@
 -- Tokens that the relation takes are those of a tree within the limit, which says the same nodes and has the same meaning errors.
 use Rattle.std.specs.Prelude.{◌≡◌, ◌+◌, ◌≤◌, ◌∷◌, ◌++◌}
-use Rattle.cborn_edn.proofs.Common.{refl, sym, ap, ap₂, ◌∙◌, subst, ℕ, List, [], append_assoc, arith, false, Chunk, Tree, Items, Tagged, Trees, more, Entries, no_entry, entry, count, count_entries, spelled_all, Comma, Colon, ArrayOpen, ArrayClose, MapOpen, MapClose, EmbedOpen, EmbedClose, ChunkOpen, ParenClose, TagOpen, Mark, Token, Profile, MeaningError, StringKind, OfBytes, Span, token, Strings, RowBefore, PairsBefore, tokens_of, tokens_of_piece, tokens_of_pieces, tokens_of_strings, tokens_of_row, tokens_of_row_before, tokens_of_content, tokens_of_pairs, tokens_of_pairs_before, tokens_of_fields, tokens_of_input, depth, depth_of_piece, depth_of_pieces, depth_of_strings, depth_of_row, depth_of_row_before, depth_of_content, depth_of_pairs, depth_of_pairs_before, depth_of_fields, depth_of_input, AllowsCount, commas, commas_of_piece, commas_of_pieces, commas_of_strings, commas_of_row, commas_of_row_before, commas_of_content, commas_of_pairs, commas_of_pairs_before, commas_of_fields, commas_of_input, snoc, snoc_entry, node, str_of, str, kind_in, chunks, nodes, nodes_before, nodes_in, entries_before, entries_in, faults, faults_of_piece, faults_of_pieces, faults_of_strings, faults_of_row, faults_before, faults_in, faults_of_pairs, faults_before_pairs, faults_of_fields, nodes_of_input, faults_of_input, chunked_node, tag_errors, size_errors, width, size, Str, is_nil, joined, said_string, chunk, piece_errors, string_errors, chunk_errors, IsItem, IsPiece, text_piece, byte_piece, ArePieces, AreChunks, first, next, AreItems, last, before, IsContent, empty, ArePairs, last_pair, pair_before, IsFields, no_fields, IsText, nothing, Pairs as PairNode, no_node, ProfileOne, ProfileTwo, HasTree, Input, Parse, Parsed}
+use Rattle.cborn_edn.proofs.Common.{refl, sym, ap, ap₂, ◌∙◌, subst, ℕ, List, [], append_assoc, arith, false, Chunk, Tree, Items, Tagged, Trees, more, Entries, no_entry, entry, count, count_entries, spelled_all, Comma, Colon, ArrayOpen, ArrayClose, MapOpen, MapClose, EmbedOpen, EmbedClose, ChunkOpen, ParenClose, TagOpen, Mark, Token, Profile, MeaningError, StringKind, OfBytes, Span, token, Strings, RowBefore, PairsBefore, tokens_of, tokens_of_piece, tokens_of_pieces, tokens_of_strings, tokens_of_row, tokens_of_row_before, tokens_of_content, tokens_of_pairs, tokens_of_pairs_before, tokens_of_fields, tokens_of_input, depth, depth_of_piece, depth_of_pieces, depth_of_strings, depth_of_row, depth_of_row_before, depth_of_content, depth_of_pairs, depth_of_pairs_before, depth_of_fields, depth_of_input, AllowsCount, commas, commas_of_piece, commas_of_pieces, commas_of_strings, commas_of_row, commas_of_row_before, commas_of_content, commas_of_pairs, commas_of_pairs_before, commas_of_fields, commas_of_input, snoc, snoc_entry, node, str_of, str, kind_in, chunks, nodes, nodes_before, nodes_in, entries_before, entries_in, faults, faults_of_piece, faults_of_pieces, faults_of_strings, faults_of_row, faults_before, faults_in, faults_of_pairs, faults_before_pairs, faults_of_fields, nodes_of_input, faults_of_input, chunked_node, tag_errors, size_errors, width, size, Str, is_nil, joined, said_string, chunk, piece_errors, string_errors, chunk_errors, IsItem, IsPiece, text_piece, byte_piece, ArePieces, AreChunks, first, next, AreItems, last, before, IsContent, empty, ArePairs, last_pair, pair_before, IsFields, no_fields, IsText, nothing, Pairs as PairNode, no_node, ProfileTwo, HasTree, Input, Parse, Parsed}
 use Rattle.cborn_edn.specs.devices.Syntax as tree
 use Rattle.cborn_edn.specs.devices.Syntax.{Pairs}
 use Rattle.cborn_edn.specs.devices.Said.{entries}
 use Rattle.cborn_edn.specs.Grammar.{number, word, simple, tag, array, map, string, chunked, embedded, piece, also, tight, loose, tight_fields, loose_fields, items}
 use Rattle.cborn_edn.proofs.Short.Derived.{both_allowed, derived_input}
-use Rattle.cborn_edn.proofs.Grammar.Trailing.{parse_of, allowed_count}
 
 -- a tree that has these tokens, says this and has these meaning errors
 pub record Found {T S : Type 0} (tokens_in : T → List Token) (depth_in commas_in : T → ℕ) (said : T → S) (faults_of : T → List MeaningError) (p : Profile) (d : ℕ) (x : List Token) (s : S) (l : List MeaningError) : Type 0 where
@@ -48,8 +47,7 @@ abbrev pub FoundInput : Profile → ℕ → List Token → Trees → List Meanin
 FoundInput = Found tokens_of_input depth_of_input commas_of_input nodes_of_input faults_of_input
 
 none_allowed : (p : Profile) → AllowsCount p 0
-none_allowed ProfileOne = refl
-none_allowed ProfileTwo = tt
+none_allowed p = grind arith
 
 any_allowed : (p : Profile) (n : ℕ) → p ≡ ProfileTwo → AllowsCount p n
 any_allowed p n e = subst (λ q. AllowsCount q n) (sym e) tt
@@ -271,13 +269,11 @@ module _ (p : Profile) where
 
 -- a tree's tokens are a text of the relation
 pub text_of : (p : Profile) (limit : ℕ) (x : List Token) (t : Input) → Parse p x t → depth_of_input t ≤ limit → IsText p limit x (nodes_of_input t) (faults_of_input t)
-text_of p limit x t h k = subst (λ y. IsText p limit y (nodes_of_input t) (faults_of_input t)) h.is (derived_input p t limit k (allowed_count p x t h))
+text_of p limit x t h k = subst (λ y. IsText p limit y (nodes_of_input t) (faults_of_input t)) h.is (derived_input p t limit k h.allowed)
 
 -- a text of the relation has a tree
 pub parsed : (p : Profile) (limit : ℕ) (x : List Token) (ts : Trees) (l : List MeaningError) → IsText p limit x ts l → Parsed p limit x ts l
-parsed p limit x ts l h =
-    let r = rebuilt_input p h in
-    record { tree = r.found; parse = parse_of p x r.found r.tokens r.allowed; shallow = r.shallow; says = r.says; errors = r.errors }
+parsed p limit x ts l h1 = grind (arith, rebuilt_input)
 
 pub said_by : (p : Profile) (limit : ℕ) (x : List Token) (ts : Trees) (l : List MeaningError) → Parsed p limit x ts l → IsText p limit x ts l
 said_by p limit x ts l h = subst (λ us. IsText p limit x us l) h.says (subst (IsText p limit x (nodes_of_input h.tree)) h.errors (text_of p limit x h.tree h.parse h.shallow))

@@ -1,13 +1,9 @@
 -- Texts of nodes that are UTF-8: as the definition says it, and node by node.
 use Rattle.std.specs.Prelude.{◌≡◌, ◌∷◌}
-use Rattle.cborn_edn.proofs.Common.{refl, sym, ◌∙◌, ℕ, List, [], Bool, true, false, inl, inr, IsUtf8-from_is_utf8, is_utf8-from_IsUtf8, is_utf8, IsUtf8, Chunk, Tree, TextChunks, Items, Tagged, Trees, more, Entries, no_entry, entry, IsBadChunk, IsBadText, IsBadAmong, IsBadInPairs, AreShowable, AreTexts, IsShowable, EachShowable, ArePairsShowable, TextNode, Pairs as PairNode, no_node}
+use Rattle.cborn_edn.proofs.Common.{arith, refl, sym, ◌∙◌, ℕ, List, [], Bool, true, false, inl, inr, IsUtf8-from_is_utf8, is_utf8-from_IsUtf8, is_utf8, IsUtf8, Chunk, Tree, TextChunks, Items, Tagged, Trees, more, Entries, no_entry, entry, IsBadChunk, IsBadText, IsBadAmong, IsBadInPairs, AreShowable, AreTexts, IsShowable, EachShowable, ArePairsShowable, TextNode, Pairs as PairNode, no_node}
 
 good : (x : List ℕ) → (is_utf8 x ≡ false → ⊥) → is_utf8 x ≡ true
-good x h = go (is_utf8 x) refl
-  where
-    go : (b : Bool) → is_utf8 x ≡ b → is_utf8 x ≡ true
-    go true e = e
-    go false e = absurd (h e)
+good x h = grind arith
 
 not_bad : (x : List ℕ) → is_utf8 x ≡ true → is_utf8 x ≡ false → ⊥
 not_bad x e f = let d : true ≡ false = sym e ∙ f in cc

@@ -1,21 +1,11 @@
 -- Where the fixed notation is UTF-8, each text that it shows is.
 use Rattle.std.specs.Prelude.{◌≡◌, ◌↔◌, ◌<◌, ◌∷◌, ◌++◌}
-use Rattle.cborn_edn.proofs.Common.{sym, subst, ℕ, List, [], map, length, true, decimal, append-nil, append_assoc, refl, inl, inr, arith, cases_lt, IsUtf8-append, IsUtf8-from_ascii, is_utf8-from_IsUtf8, IsAscii-nil, IsAscii-cons, IsAscii-decimal_wide, codes, flat_map, IsUtf8, IsAscii, is_utf8, Chunk, Width, Tree, TextChunks, Items, Tagged, Trees, more, Entries, no_entry, entry, count, count_entries, Fits, FitsAll, FitsEntries, OfText, AreShowable, Shown, mark_for, mark_for_size, escaped, indicator, opened, shown_string, shown_chunk, joined_by, shown, item_texts, pair_texts, shown_lines, others, AreTexts, IsShowable, EachShowable, ArePairsShowable, TextNode, Pairs as PairNode, no_node}
-use Rattle.simdutf8.specs.Steps.{IsClosed}
-use Rattle.simdutf8.specs.Tracks.{last_three}
-use Rattle.simdutf8.proofs.Chars.{StepsThen-IsUtf8, closed-IsUtf8}
-use Rattle.simdutf8.proofs.StepsLemmas.{StepsThen_parts, StepsThen-append, Steps_ascii, IsUtf8-append_ascii, IsUtf8-after_ascii}
+use Rattle.cborn_edn.proofs.Common.{subst, ℕ, List, [], map, length, true, decimal, append-nil, append_assoc, refl, arith, is_utf8-from_IsUtf8, IsAscii-decimal_wide, codes, flat_map, IsUtf8, IsAscii, is_utf8, Chunk, Width, Tree, TextChunks, Items, Tagged, Trees, more, Entries, no_entry, entry, count, count_entries, Fits, FitsAll, FitsEntries, OfText, AreShowable, Shown, mark_for, mark_for_size, escaped, indicator, opened, shown_string, shown_chunk, joined_by, shown, item_texts, pair_texts, shown_lines, others, AreTexts, IsShowable, EachShowable, ArePairsShowable, TextNode, Pairs as PairNode, no_node}
+use Rattle.simdutf8.proofs.StepsLemmas.{IsUtf8-append_ascii, IsUtf8-after_ascii}
 use Rattle.cborn_edn.proofs.RoundTrip.Back.{below}
 use Rattle.cborn_edn.proofs.Shown.Lowests.{are_showable, each_showable}
-use Rattle.cborn_edn.proofs.Shown.Characters.{EachUtf8, lines_text, low_ascii, indicator_low, opened_low, escaped_low, plain}
-
--- a text is cut at characters of ASCII
-cut : (a p z : List ℕ) → IsAscii p → 0 < length p → IsUtf8 (a ++ (p ++ z)) → IsUtf8 a × IsUtf8 z
-cut a p z low some u =
-    let t = last_three 0 0 0 a in
-    let whole = (StepsThen-append IsClosed 0 0 0 a (p ++ z)).0 ((StepsThen-IsUtf8 (a ++ (p ++ z))).1 u) in
-    let closed = (Steps_ascii t.0 t.1 t.2 p low some).0 ((StepsThen-append IsClosed t.0 t.1 t.2 p z).0 whole.1).0 in
-    ((StepsThen-IsUtf8 a).0 ((StepsThen_parts IsClosed 0 0 0 a).1 (whole.0, closed)), (IsUtf8-after_ascii p z low).0 (closed-IsUtf8 t.0 t.1 t.2 (p ++ z) closed whole.1))
+use Rattle.cborn_edn.proofs.Shown.Characters.{EachUtf8, unescaped, lines_text, indicator_low, opened_low}
+use Rattle.cborn_edn.proofs.Reader.Utf8.{cut, low_ascii}
 
 after : (p z : List ℕ) → IsAscii p → IsUtf8 (p ++ z) → IsUtf8 z
 after p z low u = (IsUtf8-after_ascii p z low).0 u
@@ -23,24 +13,11 @@ after p z low u = (IsUtf8-after_ascii p z low).0 u
 before : (a p : List ℕ) → IsAscii p → IsUtf8 (a ++ p) → IsUtf8 a
 before a p low u = (IsUtf8-append_ascii a p low).0 u
 
--- Escapes.
-
-unescaped : (a x : List ℕ) → IsUtf8 (a ++ flat_map escaped x) → IsUtf8 (a ++ x)
-unescaped a [] u = u
-unescaped a (b ∷ x) u = elim (cases_lt b 128) [
-  | inl low ↦
-      let c = cut a (escaped b) (flat_map escaped x) (escaped_low b low).0 (escaped_low b low).1 u in
-      IsUtf8-append a (b ∷ x) c.0 (IsUtf8-append (b ∷ []) x (IsUtf8-from_ascii (b ∷ []) (IsAscii-cons b [] low IsAscii-nil)) (unescaped [] x c.1))
-  | inr high ↦
-      let one : IsUtf8 (a ++ (b ∷ flat_map escaped x)) = subst (λ (e : List ℕ). IsUtf8 (a ++ (e ++ flat_map escaped x))) (plain b high) u in
-      subst IsUtf8 (append_assoc a (b ∷ []) x) (unescaped (a ++ b ∷ []) x (subst IsUtf8 (sym (append_assoc a (b ∷ []) (flat_map escaped x))) one))
-]
-
 string_shows : (w : Width) (x : List ℕ) → IsUtf8 (shown_string OfText w x) → is_utf8 x ≡ true
 string_shows w x u =
     let m = mark_for w (length x) in
     let inside = before (flat_map escaped x) (codes "\"" ++ indicator m) (low_ascii (codes "\"" ++ indicator m) (indicator_low m)) (after (codes "\"") (flat_map escaped x ++ (codes "\"" ++ indicator m)) (low_ascii (codes "\"") refl) u) in
-    is_utf8-from_IsUtf8 x (unescaped [] x inside)
+    is_utf8-from_IsUtf8 x (unescaped x inside)
 
 -- Nodes.
 

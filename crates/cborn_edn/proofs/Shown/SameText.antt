@@ -1,7 +1,8 @@
 -- The text of nodes doesn't depend on their places.
 use Rattle.std.specs.Prelude.{◌≡◌, ◌∷◌, ◌++◌}
-use Rattle.cborn_edn.proofs.Common.{refl, sym, ap, ◌∙◌, subst, ℕ, List, [], map, decimal, true, is_utf8, Chunk, Tree, ByteChunks, TextChunks, Items, Pairs, Tagged, Trees, more, Entries, no_entry, entry, StringKind, OfBytes, OfText, AreTexts, IsShowable, EachShowable, ArePairsShowable, Shown, AreShowable, mark_for, mark_for_size, indicator, opened, shown_chunk, joined_by, shown_chunks, shown, item_texts, pair_texts, shown_lines, unplaced_chunks, unplaced, unplaced_all, unplaced_entries, codes, no_node as no_item}
-use Rattle.cborn_edn.proofs.Shown.Lowests.{each_showable, are_showable}
+use Rattle.cborn_edn.proofs.Common.{arith, refl, sym, ap, ◌∙◌, subst, ℕ, List, [], map, decimal, Chunk, Tree, ByteChunks, TextChunks, Items, Pairs, Tagged, Trees, more, Entries, no_entry, entry, StringKind, OfBytes, OfText, FitsAll, Shown, AreShowable, mark_for, mark_for_size, indicator, opened, shown_chunk, joined_by, shown_chunks, shown, item_texts, pair_texts, shown_lines, unplaced_chunks, unplaced, unplaced_all, unplaced_entries, codes, no_node as no_item}
+use Rattle.cborn_edn.proofs.Shown.Readable.{readable}
+use Rattle.cborn_edn.proofs.RoundTrip.Unplaced.{same_fit}
 use Rattle.cborn_edn.proofs.RoundTrip.Back.{count-unplaced, count-unplaced_entries}
 
 each_chunk : (k : StringKind) (cs : List Chunk) → map (shown_chunk k) (unplaced_chunks cs) ≡ map (shown_chunk k) cs
@@ -9,10 +10,7 @@ each_chunk k [] = refl
 each_chunk k (c ∷ cs) = ap (λ l. shown_chunk k c ∷ l) (each_chunk k cs)
 
 chunks : (k : StringKind) (cs : List Chunk) → shown_chunks k (unplaced_chunks cs) ≡ shown_chunks k cs
-chunks OfBytes [] = refl
-chunks OfText [] = refl
-chunks OfBytes (c ∷ cs) = ap (λ l. codes "(_ " ++ (joined_by (codes ", ") l ++ codes ")")) (each_chunk OfBytes (c ∷ cs))
-chunks OfText (c ∷ cs) = ap (λ l. codes "(_ " ++ (joined_by (codes ", ") l ++ codes ")")) (each_chunk OfText (c ∷ cs))
+chunks k cs = grind (arith, each_chunk)
 
 mutual
   same_node : (t : Tree) → shown (unplaced t) ≡ shown t
@@ -43,29 +41,6 @@ same_text nodes others e = sym (same_lines nodes) ∙ ap shown_lines e ∙ same_
 pub same_notation : (nodes others : Trees) (text : List ℕ) → unplaced_all nodes ≡ unplaced_all others → Shown nodes text → Shown others text
 same_notation nodes others text e h = (h.0, h.1 ∙ same_text nodes others e)
 
--- whether texts are UTF-8 doesn't depend on their places either
-
-texts_same : (cs : List Chunk) → AreTexts (unplaced_chunks cs) ≡ AreTexts cs
-texts_same [] = refl
-texts_same (c ∷ cs) = λ i. (is_utf8 c.bytes ≡ true) × texts_same cs i
-
-mutual
-  showable_node : (t : Tree) → IsShowable (unplaced t) ≡ IsShowable t
-  showable_node (TextChunks p cs) = texts_same cs
-  showable_node (Items p s ts) = showable_items ts
-  showable_node (Pairs p s es) = showable_pairs es
-  showable_node (Tagged p w n t) = showable_node t
-  showable_node _ = refl
-
-  showable_items : (ts : Trees) → EachShowable (unplaced_all ts) ≡ EachShowable ts
-  showable_items no_item = refl
-  showable_items (more t ts) = λ i. showable_node t i × showable_items ts i
-
-  showable_pairs : (es : Entries) → ArePairsShowable (unplaced_entries es) ≡ ArePairsShowable es
-  showable_pairs no_entry = refl
-  showable_pairs (entry k v es) = λ i. showable_node k i × showable_node v i × showable_pairs es i
-
 -- nodes that are the same but for their places have bad texts together
-pub same_showable : (nodes others : Trees) → unplaced_all nodes ≡ unplaced_all others → AreShowable nodes → AreShowable others
-same_showable nodes others e h =
-    are_showable others (subst (λ A. A) (sym (showable_items nodes) ∙ ap EachShowable e ∙ showable_items others) (each_showable nodes h))
+pub same_showable : (nodes others : Trees) → unplaced_all nodes ≡ unplaced_all others → FitsAll nodes → AreShowable nodes → AreShowable others
+same_showable nodes others e fits h = let t = same_notation nodes others _ e ((readable nodes fits).0 h) in (readable others (same_fit nodes others e fits)).1 (subst (Shown others) t.1 t)

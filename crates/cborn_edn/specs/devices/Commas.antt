@@ -1,7 +1,7 @@
 -- A device of the proofs: how many commas of a tree are directly before a closing bracket, and how many a profile allows. No definition cites it.
-use Rattle.std.specs.Prelude.{◌≡◌, ℕ, ◌+◌}
-use Rattle.cborn_edn.specs.Common.{Profile, One as ProfileOne, Two as ProfileTwo}
-use Rattle.cborn_edn.specs.devices.Syntax.{Item, number, word, tag, simple, string, chunked, array, map, Piece, text, bytes, embedded, Pieces, piece, also, Strings, strings, StringsBefore, no_string, after_strings, Row, row, RowBefore, no_item, after_row, Content, loose, tight, Pairs, pairs, PairsBefore, no_pair, after_pairs, Fields, loose_fields, tight_fields, Input, nothing, items}
+use Rattle.std.specs.Prelude.{◌≡◌, ℕ, ◌+◌, List}
+use Rattle.cborn_edn.specs.Common.{Profile, One as ProfileOne, Two as ProfileTwo, Token}
+use Rattle.cborn_edn.specs.devices.Syntax.{Item, number, word, tag, simple, string, chunked, array, map, Piece, text, bytes, embedded, Pieces, piece, also, Strings, strings, StringsBefore, no_string, after_strings, Row, row, RowBefore, no_item, after_row, Content, loose, tight, Pairs, pairs, PairsBefore, no_pair, after_pairs, Fields, loose_fields, tight_fields, Input, nothing, items, tokens_of_input}
 
 abbrev pub last_comma : RowBefore → ℕ
 last_comma no_item = 0
@@ -68,3 +68,8 @@ commas_of_input (items r) = commas_of_row r
 abbrev pub AllowsCount : Profile → ℕ → Type 0
 AllowsCount ProfileOne n = n ≡ 0
 AllowsCount ProfileTwo n = Unit {0}
+
+-- the tokens are those of the tree, and the profile allows the commas in it
+pub record Parse (profile : Profile) (tokens : List Token) (tree : Input) : Type 0 where
+  pub is : tokens_of_input tree ≡ tokens
+  pub allowed : AllowsCount profile (commas_of_input tree)

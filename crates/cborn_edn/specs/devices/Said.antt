@@ -2,7 +2,7 @@
 use Rattle.std.specs.Prelude.{◌≡◌, ℕ, ◌≤◌, List, [], ◌∷◌, ◌++◌, true, false}
 use Rattle.cborn_edn.specs.Common.{Chunk, Tree, Items, Pairs as PairNode, Tagged, Simple, Trees, no_item as no_node, more, Entries, no_entry, entry, count, count_entries, spelled_all, Profile, Token, StringKind, OfBytes, OfText, MeaningError}
 use Rattle.cborn_edn.specs.devices.Syntax.{Item, number, word, tag, simple, string, chunked, array, map, Piece, text, bytes, embedded, Pieces, piece, also, Strings, strings, StringsBefore, no_string, after_strings, Row, row, RowBefore, no_item, after_row, Content, loose, tight, Pairs, pairs, PairsBefore, no_pair, after_pairs, Fields, loose_fields, tight_fields, Input, nothing, items, depth_of_input}
-use Rattle.cborn_edn.specs.devices.Parse.{Parse}
+use Rattle.cborn_edn.specs.devices.Commas.{Parse}
 use Rattle.cborn_edn.specs.Says.{chunked_node, number_errors, tag_errors, size_errors, width, size, number_node, simple_errors, Str, is_nil, quoted, joined, said_string, chunk, piece_errors, string_errors, chunk_errors}
 
 -- nodes, and one more at the end

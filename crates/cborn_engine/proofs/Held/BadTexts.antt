@@ -36,7 +36,7 @@ module _ (p : ℕ) where
 -- where no text is bad, there is a notation
 pub good_shows : (limit most : ℕ) (x : List ℕ) (nodes : Trees) (p : ℕ) → Wellformed most nodes x → AreShowable nodes → IsUnshown limit x p → ⊥
 good_shows limit most x nodes p read good u =
-    same_showable nodes (trees u.nodes) (same_nodes nodes (trees u.nodes) read.fit u.read.fit (read.spells ∙ sym u.read.spells)) good p u.lowest.is
+    same_showable nodes (trees u.nodes) (same_nodes nodes (trees u.nodes) read.fit u.read.fit (read.spells ∙ sym u.read.spells)) read.fit good p u.lowest.is
 
 module _ (limit : ℕ) (x : List ℕ) (items : List Value) (h : Holds Kind.Wire limit x items) where
   showable : AreShowable (trees h.nodes)

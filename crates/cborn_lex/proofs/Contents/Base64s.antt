@@ -1,6 +1,6 @@
 -- A content of b64'..' stands for some bytes or for none.
-use Rattle.std.specs.Prelude.{◌≡◌, ◌-◌, ◌%◌, ◌∷◌, ◌++◌, ◌⊎◌}
-use Rattle.cborn_lex.proofs.Common.{refl, ap, ◌∙◌, ℕ, zero, suc, List, [], map, replicate, length, Bool, true, not, cond, eqb, inl, inr, Result, Ok, Err, cond_both, and_parts, and_from, lt-ltb, list_all-append, list_any, filter, IsBytes, IsStrict, decode_of, standard, DecodeError, is_white, to_standard, filled, base64_text, IsBase64}
+use Rattle.std.specs.Prelude.{◌≡◌, ◌∷◌, ◌⊎◌}
+use Rattle.cborn_lex.proofs.Common.{arith, refl, ap, ◌∙◌, ℕ, zero, suc, List, [], map, replicate, Bool, true, cond, eqb, inl, inr, Result, Ok, Err, cond_both, and_parts, and_from, lt-ltb, list_all-append, filter, IsBytes, IsStrict, decode_of, standard, DecodeError, to_standard, filled, base64_text, IsBase64}
 use Rattle.base64.proofs.EngineFacts.{decode_of-encode_of, decode_of_strict}
 use Rattle.cborn_lex.proofs.Contents.Decoded.{is_byte, are_bytes, bytes_at, decoded_are_bytes}
 
@@ -24,14 +24,10 @@ bytes_padding zero = refl
 bytes_padding (suc n) = bytes_padding n
 
 bytes_filled : (x : List ℕ) → are_bytes x ≡ true → are_bytes (filled x) ≡ true
-bytes_filled x h =
-    cond_both (list_any (λ c. eqb c 61) x) x (x ++ replicate _ 61) (λ y. are_bytes y ≡ true) (λ e. h)
-    (λ e. list_all-append is_byte x (replicate ((4 - length x % 4) % 4) 61) ∙ and_from _ _ h (bytes_padding ((4 - length x % 4) % 4)))
+bytes_filled x h1 = grind (arith, and_from, are_bytes, bytes_padding, cond_both, is_byte, list_all-append)
 
 bytes_text : (x : List ℕ) → are_bytes x ≡ true → IsBytes (base64_text x)
-bytes_text x h =
-    let kept = filter (λ c. not (is_white c)) x in
-    bytes_at (base64_text x) (bytes_filled (map to_standard kept) (bytes_map kept (bytes_filter (λ c. not (is_white c)) x h)))
+bytes_text x h1 = grind (arith, bytes_at, bytes_filled, bytes_filter, bytes_map)
 
 strict : IsStrict standard
 strict = (refl, refl)

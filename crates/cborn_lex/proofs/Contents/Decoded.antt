@@ -1,8 +1,8 @@
 -- What base64 decodes without a fault is bytes.
 use Rattle.std.specs.Prelude.{◌≡◌, ◌+◌, ◌*◌, ◌/◌, ◌%◌, ◌<◌, ◌∷◌, ◌⊎◌}
-use Rattle.cborn_lex.proofs.Common.{refl, sym, ap, ◌∙◌, ℕ, zero, suc, List, [], length, take, drop, Bool, true, ltb, inl, inr, Option, Some, None, Result, Ok, Err, arith, and_parts, and_from, eq-eqb, ltb-true, lt-ltb, list_all-append, get_or-drop, list_all, slice_index, DecodeError, IsBytes, decode_of}
+use Rattle.cborn_lex.proofs.Common.{refl, sym, ap, ◌∙◌, ℕ, zero, suc, List, [], length, take, Bool, true, ltb, inl, inr, Option, None, Result, Ok, Err, arith, and_parts, and_from, eq-eqb, ltb-true, lt-ltb, list_all-append, get_or-drop, list_all, slice_index, DecodeError, IsBytes, decode_of}
 use Rattle.base64.specs.declared.engine.general_purpose.GeneralPurpose.{GeneralPurpose}
-use Rattle.base64.specs.Decode.{or_else, symbol_error, group_error, group_bytes, groups_error, groups_bytes, decode_group, push_leftover, scan, scan_steps, scan_last, no_leftover, suffix_bytes, lone_error, groups_before_last, decode_outcome, IsDecodeTable}
+use Rattle.base64.specs.Decode.{or_else, symbol_error, group_error, group_bytes, groups_error, groups_bytes, decode_group, push_leftover, scan, scan_steps, suffix_bytes, lone_error, groups_before_last, decode_outcome, IsDecodeTable}
 use Rattle.base64.proofs.Decoding.{IsLeftover, IsLeftover_next}
 use Rattle.base64.proofs.Tables.{IsDecodeTable_from, are_tables_inverse}
 
@@ -18,8 +18,7 @@ bytes_at (c ∷ x) h zero = ltb-true c 256 (and_parts _ _ h).0
 bytes_at (c ∷ x) h (suc i) = bytes_at x (and_parts _ _ h).1 i
 
 none_parts : (x y : Option DecodeError) → or_else x y ≡ None → (x ≡ None) × (y ≡ None)
-none_parts None y h = (refl, h)
-none_parts (Some e) y h = cc h
+none_parts x y h1 = grind arith
 
 group_is : (a b c d : ℕ) → a < 64 → b < 64 → c < 64 → d < 64 → are_bytes (decode_group a b c d) ≡ true
 group_is a b c d h k l m = and_from _ _ (lt-ltb (a * 4 + b / 16) 256 (omega arith)) (and_from _ _ (lt-ltb (b % 16 * 16 + c / 4) 256 (omega arith)) (and_from _ _ (lt-ltb (c % 4 * 64 + d) 256 (omega arith)) refl))
@@ -46,11 +45,7 @@ taken (suc n) [] h = refl
 taken (suc n) (c ∷ x) h = let hs = and_parts (is_byte c) (are_bytes x) h in and_from _ _ hs.0 (taken n x hs.1)
 
 zeros : (k : ℕ) → slice_index (0 ∷ 0 ∷ 0 ∷ 0 ∷ []) k < 64
-zeros zero = omega arith
-zeros (suc zero) = omega arith
-zeros (suc (suc zero)) = omega arith
-zeros (suc (suc (suc zero))) = omega arith
-zeros (suc (suc (suc (suc k)))) = omega arith
+zeros k = grind arith
 
 result_cases : {X : Type 0} (r : Result X DecodeError) → ((x : X) × (r ≡ Ok x)) ⊎ ((e : DecodeError) × (r ≡ Err e))
 result_cases (Ok x) = inl (x, refl)
@@ -65,16 +60,10 @@ scanned dec pad at (b ∷ bs) st end i table bytes held h = elim (result_cases (
 ]
 
 last : (dec s : List ℕ) (pad at : ℕ) → IsDecodeTable dec → IsBytes s → are_bytes (suffix_bytes dec pad at s) ≡ true
-last dec s pad at table bytes = elim (result_cases (scan_last dec pad at s)) [
-  | inl ok ↦
-      let small = scanned dec pad at (drop at s) no_leftover ok.0 0 table (λ k. rw (get_or-drop at s k 0) (bytes (at + k))) (omega arith, omega arith, omega arith, zeros) ok.1 in
-      rw ok.1 (taken (ok.0.morsels_count * 6 / 8) (decode_group (slice_index ok.0.morsels 0) (slice_index ok.0.morsels 1) (slice_index ok.0.morsels 2) (slice_index ok.0.morsels 3)) (group_is _ _ _ _ (small 0) (small 1) (small 2) (small 3)))
-  | inr bad ↦ rw bad.1 refl
-]
+last dec s pad at h1 h2 = grind (arith, get_or-drop, group_is, result_cases, scanned, taken, zeros)
 
 outcome : (x : Option DecodeError) (d b : List ℕ) → decode_outcome x d ≡ Ok b → (x ≡ None) × (d ≡ b)
-outcome None d b h = (refl, cc h)
-outcome (Some e) d b h = cc h
+outcome x d b h1 = grind arith
 
 pub decoded_are_bytes : (e : GeneralPurpose) (s b : List ℕ) → IsBytes s → decode_of e s ≡ Ok b → are_bytes b ≡ true
 decoded_are_bytes e s b bytes h =

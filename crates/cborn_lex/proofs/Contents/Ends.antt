@@ -12,8 +12,7 @@ content_then q (a ∷ b ∷ x) y h k = elim (cases_Bool (eqb a 92)) [
 ]
 
 unclosed_cons : (q a : ℕ) (y : List ℕ) → eqb a 92 ≡ false → is_not q a ≡ true → is_unclosed q y ≡ true → is_unclosed q (a ∷ y) ≡ true
-unclosed_cons q a [] e h k = h
-unclosed_cons q a (b ∷ y) e h k = unclosed_plain q a b y e ∙ and_from _ _ h k
+unclosed_cons q a y h1 h2 h3 = grind arith
 
 pub unclosed_then : (q : ℕ) (x y : List ℕ) → is_content q x ≡ true → is_unclosed q y ≡ true → is_unclosed q (x ++ y) ≡ true
 unclosed_then q [] y h k = k

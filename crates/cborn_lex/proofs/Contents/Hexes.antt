@@ -1,21 +1,14 @@
 -- A content of h'..' stands for some bytes or for none.
-use Rattle.cborn_lex.proofs.Common.{IfOk, refl, sym, ap, ◌∙◌, subst, ℕ, List, [], length, take, drop, get_or, Bool, true, false, not, cond, eqb, inl, inr, Option, Some, None, Result, Ok, Err, append_assoc, length-append, eq-eqb, false≢true, drop_more, drop_all, cond-true, cond-false, and_parts, and_from, eqb-true, not-true, or_cases, list_all, is_digit, is_not, is_white, onto, strip, after, HasDigits, nothing, space, comment, IsHex}
-use Rattle.std.specs.Prelude.{◌/◌, ◌%◌, MatchResult, ◌≡◌, ◌+◌, ◌<◌, ◌≤◌, ◌∷◌, ◌++◌, ◌⊎◌}
+use Rattle.cborn_lex.proofs.Common.{arith, IfOk, refl, sym, ap, ◌∙◌, subst, ℕ, List, [], length, take, drop, get_or, Bool, true, false, not, cond, eqb, inl, inr, Option, Some, None, Result, Ok, Err, append_assoc, length-append, drop_more, drop_all, cond-true, cond-false, and_parts, and_from, eqb-true, not-true, list_all, is_digit, is_not, is_white, onto, strip, after, HasDigits, nothing, space, comment, IsHex}
+use Rattle.std.specs.Prelude.{◌/◌, MatchResult, ◌≡◌, ◌+◌, ◌<◌, ◌≤◌, ◌∷◌, ◌++◌, ◌⊎◌}
 use Rattle.std.specs.Result.{is_ok}
 use Rattle.std.proofs.Math.Seq.{take-append_seam}
-use Rattle.hex.specs.Hex.{decode_of, decode_pairs, decode_sized}
+use Rattle.hex.specs.Hex.{decode_of, decode_sized}
 use Rattle.hex.specs.declared.error.FromHexError.{FromHexError}
-use Rattle.hex.specs.declared.error.FromHexError.TheVariants.{OddLength, InvalidStringLength}
 use Rattle.cborn_lex.specs.Strings.{digit}
 
-at_char : (c k : ℕ) → is_digit k 16 ≡ false → eqb c k ≡ true → is_digit c 16 ≡ false
-at_char c k h e = ap (λ d. is_digit d 16) (eqb-true c k e) ∙ h
-
 white_no_digit : (c : ℕ) → is_white c ≡ true → is_digit c 16 ≡ false
-white_no_digit c h = elim (or_cases _ _ h) [
-  | inl h ↦ elim (or_cases _ _ h) [ inl e ↦ at_char c 32 refl e | inr e ↦ at_char c 9 refl e ]
-  | inr h ↦ elim (or_cases _ _ h) [ inl e ↦ at_char c 10 refl e | inr e ↦ at_char c 13 refl e ]
-]
+white_no_digit c h1 = grind arith
 
 strip_comment : (body x : List ℕ) → list_all (is_not 47) body ≡ true → strip true (body ++ 47 ∷ x) ≡ strip false x
 strip_comment [] x h = refl
@@ -41,21 +34,16 @@ Stripped false x (Some ds) = HasDigits x ds
 Stripped true x (Some ds) = Inside x ds
 
 chosen : (i : Bool) (x : List ℕ) (b : Bool) (r s : Option (List ℕ)) → (b ≡ true → Stripped i x r) → (b ≡ false → Stripped i x s) → Stripped i x (cond b r s)
-chosen i x true r s f g = f refl
-chosen i x false r s f g = g refl
+chosen i x b r s h1 h2 = grind arith
 
 digit_more : (c : ℕ) (x : List ℕ) (o : Option (List ℕ)) → is_digit c 16 ≡ true → Stripped false x o → Stripped false (c ∷ x) (onto c o)
-digit_more c x None h k = tt
-digit_more c x (Some ds) h k = digit c x ds h k
+digit_more c x o h1 h2 = grind (arith, digit)
 
 space_more : (c : ℕ) (x : List ℕ) (o : Option (List ℕ)) → is_white c ≡ true → Stripped false x o → Stripped false (c ∷ x) o
-space_more c x None h k = tt
-space_more c x (Some ds) h k = space c x ds h k
+space_more c x o h1 h2 = grind (arith, space)
 
 comment_begins : (c : ℕ) (x : List ℕ) (o : Option (List ℕ)) → eqb c 47 ≡ true → Stripped true x o → Stripped false (c ∷ x) o
-comment_begins c x None h k = tt
-comment_begins c x (Some ds) h k =
-    subst (λ (y : List ℕ). HasDigits y ds) (sym (ap (λ d. d ∷ x) (eqb-true c 47 h) ∙ ap (λ y. 47 ∷ y) k.whole)) (comment k.body k.after ds k.none k.digits)
+comment_begins c x o h1 h2 = grind (arith, after, comment, eqb-true)
 
 comment_ends : (c : ℕ) (x : List ℕ) (o : Option (List ℕ)) → eqb c 47 ≡ true → Stripped false x o → Stripped true (c ∷ x) o
 comment_ends c x None h k = tt
@@ -75,25 +63,13 @@ strips false (c ∷ x) =
     (λ k. chosen false _ (eqb c 47) _ _ (λ l. comment_begins c x _ l (strips true x)) (λ l. tt)))
 
 pub hex_one : (x b d : List ℕ) → IsHex x b → IsHex x d → b ≡ d
-hex_one x b d h k =
-    let l = strip_is h.1 in
-    let r = strip_is k.1 in
-    let e : h.0 ≡ k.0 = cc in
-    let f = ap decode_of e in
-    let m = h.2 in
-    let n = k.2 in
-    cc
+hex_one x b d h1 h2 = grind (arith, strip_is)
 
 pub hex_no_digits : (x : List ℕ) → strip false x ≡ None → (bytes : List ℕ) → IsHex x bytes → ⊥
 hex_no_digits x e bytes h = let l = strip_is h.1 in cc
 
 pub hex_err : (x ds : List ℕ) (f : FromHexError) → strip false x ≡ Some ds → decode_of ds ≡ Err f → (bytes : List ℕ) → IsHex x bytes → ⊥
-hex_err x ds f e h bytes t =
-    let l = strip_is t.1 in
-    let same : t.0 ≡ ds = cc in
-    let m = ap decode_of same in
-    let n = t.2 in
-    cc
+hex_err x ds f h1 h2 bytes h3 = grind (arith, strip_is)
 
 hex_decoded : (x ds : List ℕ) (r : Result (List ℕ) FromHexError) → strip false x ≡ Some ds → HasDigits x ds → decode_of ds ≡ r → ((bytes : List ℕ) × IsHex x bytes) ⊎ ((bytes : List ℕ) → IsHex x bytes → ⊥)
 hex_decoded x ds (Ok bytes) e k h = inl (bytes, (ds, k, h))
@@ -120,20 +96,12 @@ hex_written x ds digits old new (Ok ok) e same h = λ t. let d = h t in (d.0, (d
 hex_written x ds digits old new (Err f) e same h = h
 
 pub hex_none : {E : Type 0} (x ds digits : List ℕ) (r : Result Bool E) → strip false x ≡ Some ds → digits ≡ ds → IfOk r (λ ok. ok ≡ false → (bytes : List ℕ) → decode_of digits ≡ Ok bytes → ⊥) → IfOk r (λ ok. ok ≡ false → (bytes : List ℕ) → IsHex x bytes → ⊥)
-hex_none x ds digits (Ok ok) e same h = λ t bytes k.
-    let l = strip_is k.1 in
-    let found : k.0 ≡ ds = cc in
-    h t bytes (ap decode_of (same ∙ sym found) ∙ k.2)
-hex_none x ds digits (Err f) e same h = h
+hex_none x ds digits r h1 h2 h3 = grind (arith, strip_is)
 
 -- the bytes of digits, put where there is room for them
 
 pub decoded_ok : (d new : List ℕ) (n : ℕ) (r : Result (Unit {0}) FromHexError) → length d / 2 ≡ n → is_ok r ≡ true → MatchResult (decode_sized d n) (λ bytes. (r ≡ Ok tt) × (new ≡ bytes)) (λ e. r ≡ Err e) → decode_of d ≡ Ok new
-decoded_ok d new n r half ok h = go (decode_sized d n) (ap (λ b. cond (eqb (length d % 2) 1) (Err OddLength) (cond b (decode_pairs 0 d) (Err InvalidStringLength))) (eq-eqb (length d / 2) n half)) h
-  where
-    go : (o : Result (List ℕ) FromHexError) → o ≡ decode_of d → MatchResult o (λ bytes. (r ≡ Ok tt) × (new ≡ bytes)) (λ e. r ≡ Err e) → decode_of d ≡ Ok new
-    go (Ok bytes) e h = sym e ∙ ap Ok (sym h.1)
-    go (Err f) e h = absurd (false≢true (sym (ap is_ok h) ∙ ok))
+decoded_ok d new n r h1 h2 h3 = grind arith
 
 pub appended : (old made rest items : List ℕ) (len : ℕ) → len ≡ length old + length made → take len ((old ++ (made ++ rest)) ++ items) ≡ old ++ made
 appended old made rest items len e =
@@ -143,28 +111,21 @@ appended old made rest items len e =
 -- The loop.
 
 pub after_none : (o : Option (List ℕ)) → after [] o ≡ o
-after_none None = refl
-after_none (Some x) = refl
+after_none o = grind arith
 
 -- after all of it
 pub at_end : (content ds : List ℕ) (at : ℕ) (i : Bool) → length content ≤ at → after ds (strip i (drop at content)) ≡ strip false content → strip false content ≡ after ds (strip i [])
 at_end content ds at i h e = sym e ∙ ap (λ x. after ds (strip i x)) (drop_all at content h)
 
 after_onto : (ds : List ℕ) (c : ℕ) (o : Option (List ℕ)) → after ds (onto c o) ≡ after (ds ++ c ∷ []) o
-after_onto ds c None = refl
-after_onto ds c (Some x) = ap Some (sym (append_assoc ds (c ∷ []) x))
+after_onto ds c o = grind (arith, append_assoc)
 
 pub at_inside : (ds x : List ℕ) (c : ℕ) → after ds (strip true (c ∷ x)) ≡ after ds (strip (not (eqb c 47)) x)
-at_inside ds x c = ap (after ds) (go (eqb c 47))
-  where
-    go : (b : Bool) → cond b (strip false x) (strip true x) ≡ strip (not b) x
-    go true = refl
-    go false = refl
+at_inside ds x c = grind arith
 
 pub at_digit : (ds x : List ℕ) (c : ℕ) → is_digit c 16 ≡ true → after ds (strip false (c ∷ x)) ≡ after (ds ++ c ∷ []) (strip false x)
 at_digit ds x c h = ap (after ds) (cond-true (is_digit c 16) _ _ h) ∙ after_onto ds c (strip false x)
 
 pub moved : (content ds es : List ℕ) (at : ℕ) (i j : Bool) (i' j' : Bool) → at < length content → i ≡ i' → j ≡ j' → after ds (strip i' (get_or content at 0 ∷ drop (at + 1) content)) ≡ after es (strip j' (drop (at + 1) content)) → after ds (strip i (drop at content)) ≡ strip false content
     → after es (strip j (drop (at + 1) content)) ≡ strip false content
-moved content ds es at i j i' j' h e f step inv =
-    ap (λ b. after es (strip b (drop (at + 1) content))) f ∙ (sym step ∙ (ap (λ x. after ds (strip i' x)) (sym (drop_more content at 0 h)) ∙ (ap (λ b. after ds (strip b (drop at content))) (sym e) ∙ inv)))
+moved content ds es at i j i' j' h1 h2 h3 h4 h5 = grind (arith, drop_more)

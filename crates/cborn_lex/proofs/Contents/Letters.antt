@@ -1,23 +1,16 @@
 -- What a content stands for, letter by letter.
 use Rattle.std.specs.Prelude.{◌≡◌, ◌+◌, ◌-◌, ◌*◌, ◌<◌, ◌≤◌, ◌∷◌, ◌++◌, ◌&&◌, ◌||◌}
-use Rattle.cborn_lex.proofs.Common.{refl, sym, ap, ◌∙◌, subst, ℕ, List, [], length, drop, get_or, map, Bool, true, false, not, cond, eqb, leb, inl, inr, Option, Some, None, arith, append_assoc, lit<, cond-false, and_parts, and_from, eq-eqb, eqb-true, not-true, or_cases, false≢true, ne_eqb, encode_ascii, encode_utf8, list_all, flat_map, is_escape, escape_code, are_hex, code, is_high, is_low, IsText, Letter, raw, escaped, unit, pair, written, meant, is_letter, is_raw, code_at, low_code, paired, unit_from, escape_of, length-append}
+use Rattle.cborn_lex.proofs.Common.{refl, sym, ap, ◌∙◌, subst, ℕ, List, [], length, drop, get_or, map, Bool, true, false, not, cond, eqb, leb, inl, inr, Option, Some, None, arith, append_assoc, lit<, cond-false, and_parts, and_from, eqb-true, or_cases, false≢true, ne_eqb, encode_ascii, encode_utf8, list_all, flat_map, is_escape, escape_code, are_hex, code, is_high, is_low, IsText, Letter, raw, escaped, unit, pair, written, meant, is_letter, is_raw, code_at, low_code, paired, unit_from, escape_of, length-append}
 use Rattle.cborn_lex.proofs.Contents.Texts.{has_letters, low_at, unit_at, escape_at, LetterAt, MatchAt, letter_at_is, NoLetters, no_letters, no_more, longer}
 use Rattle.cborn_lex.proofs.Sliced.Pieces.{front_is}
 
 -- Codes.
 
 pub no_code : (x : List ℕ) → are_hex (get_or x 0 0) (get_or x 1 0) (get_or x 2 0) (get_or x 3 0) ≡ false → code_at x ≡ None
-no_code (a ∷ b ∷ c ∷ d ∷ x) h = cond-false (are_hex a b c d) _ _ h
-no_code _ h = refl
-
-low_from : (a b : Bool) (n m : ℕ) → cond a (Some n) None ≡ Some m → is_low m ≡ false → cond (b && (a && is_low n)) (Some n) None ≡ None
-low_from true true n m e h = let same : n ≡ m = cc in rw (same, h) refl
-low_from false true n m e h = refl
-low_from _ _ n m e h = refl
+no_code x h1 = grind arith
 
 pub no_low : (x : List ℕ) (n : ℕ) → code_at (drop 2 x) ≡ Some n → is_low n ≡ false → low_code x ≡ None
-no_low (s ∷ u ∷ e ∷ f ∷ g ∷ k ∷ x) n i h = low_from (are_hex e f g k) (eqb s 92 && eqb u 117) (code e f g k) n i h
-no_low _ n _ h = refl
+no_low x n h1 h2 = grind arith
 
 -- A letter, and what the code finds of it.
 
@@ -33,37 +26,25 @@ found None = None
 found (Some r) = Some (char_of r.0, length (written r.0))
 
 found_if : (b : Bool) (r s : Option (Letter × List ℕ)) → found (cond b r s) ≡ cond b (found r) (found s)
-found_if true r s = refl
-found_if false r s = refl
+found_if b r s = grind arith
 
 paired_if : (b : Bool) (n m : ℕ) → cond b (Some (0x1_0000 + (n - 0xD800) * 0x400 + (m - 0xDC00), 12)) None ≡ paired n (cond b (Some m) None)
-paired_if true n m = refl
-paired_if false n m = refl
+paired_if b n m = grind arith
 
 low_found : (a b c d : ℕ) (x : List ℕ) → found (low_at a b c d x) ≡ paired (code a b c d) (low_code x)
-low_found a b c d (s ∷ u ∷ e ∷ f ∷ g ∷ h ∷ x) =
-    found_if ((eqb s 92 && eqb u 117) && (are_hex e f g h && is_low (code e f g h))) _ _ ∙ paired_if ((eqb s 92 && eqb u 117) && (are_hex e f g h && is_low (code e f g h))) (code a b c d) (code e f g h)
-low_found a b c d _ = refl
+low_found a b c d x = grind (arith, found_if, paired_if)
 
 unit_if : (a b : Bool) (n : ℕ) (o : Option (ℕ × ℕ)) (x : List ℕ) → o ≡ paired n (low_code x) → cond a (cond (is_high n) o (cond (is_low n) None (Some (n, 6)))) None ≡ unit_from (cond a (Some n) None) x
-unit_if true b n o x h = rw h refl
-unit_if false b n o x h = refl
+unit_if a b n o x h1 = grind arith
 
 unit_found : (x : List ℕ) → found (unit_at x) ≡ unit_from (code_at x) (drop 4 x)
-unit_found (a ∷ b ∷ c ∷ d ∷ x) =
-    found_if (are_hex a b c d) _ _
-    ∙ (ap (λ o. cond (are_hex a b c d) o None) (found_if (is_high (code a b c d)) (low_at a b c d x) _ ∙ ap (λ o. cond (is_high (code a b c d)) (found (low_at a b c d x)) o) (found_if (is_low (code a b c d)) _ _))
-    ∙ unit_if (are_hex a b c d) true (code a b c d) (found (low_at a b c d x)) x (low_found a b c d x))
-unit_found _ = refl
+unit_found x = grind (arith, found_if, low_at, low_found, unit_if)
 
 escape_found : (q : ℕ) (x : List ℕ) → found (escape_at q x) ≡ escape_of q x
-escape_found q [] = refl
-escape_found q (e ∷ x) =
-    found_if (is_escape q e) _ _ ∙ ap (λ o. cond (is_escape q e) (Some (escape_code e, 2)) o) (found_if (eqb e 117) (unit_at x) None ∙ ap (λ o. cond (eqb e 117) o None) (unit_found x))
+escape_found q x = grind (arith, found_if, unit_at, unit_found)
 
 found_none : (o : Option (Letter × List ℕ)) → found o ≡ None → o ≡ None
-found_none None h = refl
-found_none (Some r) h = cc
+found_none o h1 = grind arith
 
 -- A letter's bytes are its character in UTF-8.
 
@@ -75,22 +56,13 @@ either_code : (e n : ℕ) (b : Bool) → (b ≡ true → escape_code e ∷ [] �
 either_code e n b f k h = elim (or_cases (eqb e n) b h) [ inl i ↦ ascii e n i k | inr i ↦ f i ]
 
 pub escape_bytes : (q e : ℕ) → is_escape q e ≡ true → escape_code e ∷ [] ≡ encode_utf8 (escape_code e)
-escape_bytes q e h = elim (or_cases _ _ h) [
-  | inr i ↦ ascii e 39 (and_parts _ _ i).0 (lit< tt)
-  | inl i ↦ either_code e 34 _ (either_code e 92 _ (either_code e 47 _ (either_code e 98 _ (either_code e 102 _ (either_code e 110 _ (either_code e 114 _ (either_code e 116 false (λ j. absurd (false≢true j)) (lit< tt)) (lit< tt)) (lit< tt)) (lit< tt)) (lit< tt)) (lit< tt)) (lit< tt)) (lit< tt) i
-]
+escape_bytes q e h1 = grind (arith, and_parts, ascii, either_code, false≢true, lit<, or_cases)
 
 pub no_raw : (q d : ℕ) (x y : List ℕ) → LetterAt q (92 ∷ x) (raw d) y → ⊥
-no_raw q d x y h =
-    let ks = and_parts (leb 32 d) (not (eqb d 92)) h.allowed in
-    let same : 92 ≡ d = let e = h.whole in cc in
-    false≢true (sym (not-true _ ks.1) ∙ eq-eqb d 92 (sym same))
+no_raw q d x y h1 = grind arith
 
 meant_is : (q : ℕ) (l : Letter) (x y : List ℕ) → LetterAt q (92 ∷ x) l y → meant l ≡ encode_utf8 (char_of l)
-meant_is q (raw d) x y h = absurd (no_raw q d x y h)
-meant_is q (escaped e) x y h = escape_bytes q e h.allowed
-meant_is q (unit a b d e) x y h = refl
-meant_is q (pair a b d e f g i j) x y h = refl
+meant_is q l x y h1 = grind (arith, escape_bytes, no_raw)
 
 -- an escape after a backslash, its character c and its n bytes
 pub record Escape (q : ℕ) (x : List ℕ) (c n : ℕ) : Type 0 where
@@ -124,8 +96,7 @@ pub no_escape : (q : ℕ) (x : List ℕ) → escape_of q x ≡ None → NoLetter
 no_escape q x e = no_letters q 92 x (found_none (escape_at q x) (escape_found q x ∙ e))
 
 pub not_raw : (a b : Bool) → (a && not b) ≡ false → b ≡ false → a ≡ false
-not_raw false b h k = refl
-not_raw true b h k = absurd (false≢true (sym h ∙ ap not k))
+not_raw a b h1 h2 = grind arith
 
 pub no_control : (q c : ℕ) (x : List ℕ) → is_raw c ≡ false → (c ≡ 92 → ⊥) → NoLetters q (c ∷ x)
 no_control q c x h k =

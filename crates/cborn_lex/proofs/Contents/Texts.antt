@@ -1,5 +1,5 @@
 -- A content is the letters of one text, or of none.
-use Rattle.std.specs.Prelude.{◌≡◌, ◌<◌, ◌∷◌, ◌++◌, ◌&&◌, ◌||◌, ◌⊎◌}
+use Rattle.std.specs.Prelude.{◌≡◌, ◌<◌, ◌∷◌, ◌++◌, ◌&&◌, ◌⊎◌}
 use Rattle.cborn_lex.proofs.Common.{refl, sym, ap, ◌∙◌, subst, ℕ, zero, suc, List, [], length, Bool, true, false, not, cond, eqb, leb, inl, inr, Option, Some, None, arith, cond-true, cond-false, and_parts, and_from, eqb-true, not-true, or_parts, or_from, list_all, flat_map, is_escape, are_hex, is_high, is_low, code, four, IsText, Letter, raw, escaped, unit, pair, written, meant, is_letter, HasLetters}
 use Rattle.cborn_lex.specs.Strings as text
 
@@ -43,18 +43,7 @@ letter_at q [] = None
 letter_at q (c ∷ x) = cond (eqb c 92) (escape_at q x) (cond (leb 32 c) (Some (raw c, x)) None)
 
 pub letter_is : (q : ℕ) (l : Letter) (x : List ℕ) → is_letter q l ≡ true → letter_at q (written l ++ x) ≡ Some (l, x)
-letter_is q (raw c) x h =
-    let hs = and_parts (leb 32 c) (not (eqb c 92)) h in
-    cond-false (eqb c 92) _ _ (not-true _ hs.1) ∙ cond-true (leb 32 c) _ _ hs.0
-letter_is q (escaped e) x h = cond-true (is_escape q e) _ _ h
-letter_is q (unit a b c d) x h =
-    let hs = and_parts (are_hex a b c d) (not (is_high (code a b c d) || is_low (code a b c d))) h in
-    let ns = or_parts (is_high (code a b c d)) (is_low (code a b c d)) (not-true _ hs.1) in
-    cond-true (are_hex a b c d) _ _ hs.0 ∙ (cond-false (is_high (code a b c d)) _ _ ns.0 ∙ cond-false (is_low (code a b c d)) _ _ ns.1)
-letter_is q (pair a b c d e f g h) x k =
-    let hs = and_parts (are_hex a b c d && is_high (code a b c d)) (are_hex e f g h && is_low (code e f g h)) k in
-    let highs = and_parts (are_hex a b c d) (is_high (code a b c d)) hs.0 in
-    cond-true (are_hex a b c d) _ _ highs.0 ∙ (cond-true (is_high (code a b c d)) _ _ highs.1 ∙ cond-true (are_hex e f g h && is_low (code e f g h)) _ _ hs.1)
+letter_is q l x h1 = grind (arith, and_parts, cond-false, cond-true, not-true, or_parts)
 
 pub record LetterAt (q : ℕ) (x : List ℕ) (l : Letter) (y : List ℕ) : Type 0 where
   pub allowed : is_letter q l ≡ true
@@ -66,8 +55,7 @@ MatchAt q x (Some r) = LetterAt q x r.0 r.1
 
 -- a choice, by its test
 chosen : (q : ℕ) (x : List ℕ) (b : Bool) (r s : Option (Letter × List ℕ)) → (b ≡ true → MatchAt q x r) → (b ≡ false → MatchAt q x s) → MatchAt q x (cond b r s)
-chosen q x true r s f g = f refl
-chosen q x false r s f g = g refl
+chosen q x b r s h1 h2 = grind arith
 
 low_at_is : (q a b c d : ℕ) (x : List ℕ) → are_hex a b c d ≡ true → is_high (code a b c d) ≡ true → MatchAt q (four a b c d ++ x) (low_at a b c d x)
 low_at_is q a b c d (s ∷ u ∷ e ∷ f ∷ g ∷ h ∷ x) k l =
@@ -97,10 +85,7 @@ escape_of : (q c : ℕ) (x : List ℕ) → eqb c 92 ≡ true → MatchAt q (c �
 escape_of q c x h = subst (λ (d : ℕ). MatchAt q (d ∷ x) (escape_at q x)) (sym (eqb-true c 92 h)) (escape_at_is q x)
 
 pub letter_at_is : (q : ℕ) (x : List ℕ) → MatchAt q x (letter_at q x)
-letter_at_is q [] = tt
-letter_at_is q (c ∷ x) =
-    chosen q _ (eqb c 92) _ _ (λ h. escape_of q c x h)
-    (λ h. chosen q _ (leb 32 c) _ _ (λ k. record { allowed = and_from _ _ k (ap not h); whole = refl }) (λ k. tt))
+letter_at_is q x = grind (arith, and_from, chosen, eqb, escape_of, leb, not)
 
 some_parts : (l m : Letter) (y z : List ℕ) (o : Option (Letter × List ℕ)) → o ≡ Some (l, y) → o ≡ Some (m, z) → (l ≡ m) × (y ≡ z)
 some_parts l m y z o e h = let p : (l, y) ≡ (m, z) = cc in (ap (λ (r : Letter × List ℕ). r.0) p, ap (λ (r : Letter × List ℕ). r.1) p)
@@ -141,10 +126,7 @@ abbrev pub NoLetters : ℕ → List ℕ → Type 0
 NoLetters q x = (ls : List Letter) → list_all (is_letter q) ls ≡ true → x ≡ flat_map written ls → ⊥
 
 pub longer : (l : Letter) (y : List ℕ) → length y < length (written l ++ y)
-longer (raw c) y = omega arith
-longer (escaped e) y = omega arith
-longer (unit a b c d) y = omega arith
-longer (pair a b c d e f g h) y = omega arith
+longer l y = grind arith
 
 pub no_letters : (q c : ℕ) (x : List ℕ) → letter_at q (c ∷ x) ≡ None → NoLetters q (c ∷ x)
 no_letters q c x e [] h k = cc

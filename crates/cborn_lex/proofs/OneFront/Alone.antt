@@ -1,6 +1,6 @@
 -- The front of a text is one thing.
 use Rattle.std.specs.Prelude.{◌≡◌, ◌∷◌, ◌++◌, ◌&&◌}
-use Rattle.cborn_lex.proofs.Common.{refl, sym, ap, ◌∙◌, subst, ℕ, List, [], Bool, true, false, not, eqb, inl, inr, Option, append_assoc, append-nil, and_from, eqb-true, both_ways, true≢false, list_all, bytes_eq, codes, Profile, One, Two, Mark, LexReason, BadEscape, BadHex, BadBase64, Class, EmbedClose, Text, Bytes, Front, is_word, is_numeral, is_not, begins, mark_of, marked, integer, number_front, IsText, IsHex, IsBase64, Lacks, ContentGives, Closed, IsString, Prefix, hexadecimal, base64, unknown, prefix_of, IsPrefixed, IsAfterWord, ReadsWord, IsTag, ReadsNumber, double, simple, Start, white, slash, hash, less, greater, paren, letter, minus, digit, other, single, opening, start_of, paren_front, ReadsFrom, Reads}
+use Rattle.cborn_lex.proofs.Common.{arith, refl, sym, ap, ◌∙◌, subst, ℕ, List, [], Bool, true, false, eqb, inl, inr, Option, append_assoc, append-nil, and_from, eqb-true, both_ways, true≢false, list_all, bytes_eq, codes, Profile, One, Two, Mark, LexReason, BadEscape, BadHex, BadBase64, Class, EmbedClose, Text, Bytes, Front, is_not, begins, mark_of, marked, IsText, IsHex, IsBase64, Lacks, ContentGives, Closed, IsString, Prefix, hexadecimal, base64, unknown, prefix_of, IsPrefixed, IsAfterWord, ReadsWord, IsTag, ReadsNumber, double, simple, Start, white, slash, hash, less, greater, paren, letter, minus, digit, other, single, opening, start_of, paren_front, ReadsFrom, Reads}
 use Rattle.cborn_lex.specs.Forms.{Through}
 use Rattle.cborn_lex.proofs.OneFront.Runs.{rest, one_run, one_indicator, Closer, plain}
 use Rattle.cborn_lex.proofs.OneFront.Found.{UpTo}
@@ -102,33 +102,18 @@ word_text : (word after s z : List ℕ) → s ≡ word ++ after → s ++ z ≡ w
 word_text word after s z h = ap (λ x. x ++ z) h ∙ append_assoc word after z
 
 words : (c : ℕ) (s z t w : List ℕ) (a b : Front) → ReadsWord c s z a → ReadsWord c t w b → s ++ z ≡ t ++ w → Same s t a b
-words c s z t w a b (word, after, h, i, j) (name, then, k, l, m) e =
-    let texts = sym (word_text word after s z i) ∙ (e ∙ word_text name then t w l) in
-    let same = one_run is_word word name (after ++ z) (then ++ w) h k texts in
-    let r = after_word (c ∷ name) after z then w a b (subst (λ (x : List ℕ). IsAfterWord (c ∷ x) after z a) same j) m (rest word name (after ++ z) (then ++ w) same texts) in
-    (i ∙ (ap (λ x. x ++ after) same ∙ (ap (λ x. name ++ x) r.0 ∙ sym l)), r.1)
+words c s z t w a b h1 h2 h3 = grind (arith, after_word, one_run, rest, word_text)
 
 -- Numbers.
 
 tags : (negative p q : Bool) (s z t w : List ℕ) → IsTag negative p s z → IsTag negative q t w → s ++ z ≡ t ++ w → (s ≡ t) × (p ≡ q)
-tags negative p q [] z [] w h k e = (refl, h.0 ∙ sym k.0)
-tags negative p q [] z (d ∷ t) w h k e = absurd (both_ways _ h.1 (and_from _ _ (ap not k.1) (ap (begins (λ c. eqb c 40)) e ∙ k.2)))
-tags negative p q (c ∷ s) z [] w h k e = absurd (both_ways _ k.1 (and_from _ _ (ap not h.1) (ap (begins (λ d. eqb d 40)) (sym e) ∙ h.2)))
-tags negative p q (c ∷ s) z (d ∷ t) w h k e = (ap (λ x. x ∷ s) (same_head e).0 ∙ ap (λ x. d ∷ x) (h.3 ∙ sym k.3), h.0 ∙ sym k.0)
+tags negative p q s z t w h1 h2 h3 = grind arith
 
 number_text : (body mark tag s z : List ℕ) → s ≡ body ++ (mark ++ tag) → s ++ z ≡ body ++ (mark ++ (tag ++ z))
 number_text body mark tag s z h = ap (λ x. x ++ z) h ∙ simp append_assoc
 
 numbers : (negative : Bool) (first s z t w : List ℕ) (a b : Front) → ReadsNumber negative first s z a → ReadsNumber negative first t w b → s ++ z ≡ t ++ w → Same s t a b
-numbers negative first s z t w a b (p, body, mark, tag, h, i) (q, figures, sign, tip, k, j) e =
-    let texts = sym (number_text body mark tag s z h.whole) ∙ (e ∙ number_text figures sign tip t w k.whole) in
-    let bodies = one_run is_numeral body figures (mark ++ (tag ++ z)) (sign ++ (tip ++ w)) h.run k.run texts in
-    let after = rest body figures (mark ++ (tag ++ z)) (sign ++ (tip ++ w)) bodies texts in
-    let marks = one_indicator mark sign (tag ++ z) (tip ++ w) h.indicator k.indicator after in
-    let r = tags negative p q tag z tip w h.tagging k.tagging (rest mark sign (tag ++ z) (tip ++ w) marks after) in
-    let all : body ++ (mark ++ tag) ≡ figures ++ (sign ++ tip) = rw (bodies, marks, r.0) refl in
-    let fronts : number_front negative p (mark_of mark) (integer negative (first ++ body)) ≡ number_front negative q (mark_of sign) (integer negative (first ++ figures)) = rw (bodies, marks, r.1) refl in
-    (h.whole ∙ (all ∙ sym k.whole), i ∙ (fronts ∙ sym j))
+numbers negative first s z t w a b h1 h2 h3 = grind (arith, number_text, one_indicator, one_run, rest, tags)
 
 -- All kinds.
 

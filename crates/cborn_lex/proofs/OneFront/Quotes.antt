@@ -1,6 +1,6 @@
 -- Where a quoted string ends.
 use Rattle.std.specs.Prelude.{◌≡◌, ◌∷◌, ◌++◌, ◌&&◌, ◌⊎◌}
-use Rattle.cborn_lex.proofs.Common.{refl, sym, ap, ◌∙◌, ℕ, List, [], true, false, not, cond, eqb, inl, inr, Option, Some, None, cond-false, and_parts, and_from, eq-eqb, eqb-true, not-true, cases_Bool, is_not, is_content, is_unclosed, after}
+use Rattle.cborn_lex.proofs.Common.{arith, refl, sym, ap, ◌∙◌, ℕ, List, [], true, false, not, cond, eqb, inl, inr, Option, Some, None, cond-false, and_parts, and_from, eqb-true, not-true, cases_Bool, is_not, is_content, is_unclosed, after}
 use Rattle.cborn_lex.proofs.OneFront.Runs.{Found, Closer}
 
 abbrev content_at : ℕ → List ℕ → Option (List ℕ)
@@ -28,13 +28,11 @@ pub unclosed_plain : (q c d : ℕ) (x : List ℕ) → eqb c 92 ≡ false → is_
 unclosed_plain q c d x e = rw e refl
 
 pub content_cons : (q c : ℕ) (x : List ℕ) → eqb c 92 ≡ false → eqb c q ≡ false → is_content q x ≡ true → is_content q (c ∷ x) ≡ true
-content_cons q c [] e h k = rw (e, h) refl
-content_cons q c (d ∷ x) e h k = content_plain q c d x e ∙ and_from _ _ (ap not h) k
+content_cons q c x h1 h2 h3 = grind arith
 
 module _ (q : ℕ) (ne : eqb q 92 ≡ false) where
   at_quote : (x : List ℕ) → content_at q (q ∷ x) ≡ Some []
-  at_quote [] = rw (eq-eqb q q refl) refl
-  at_quote (d ∷ x) = rw (ne, eq-eqb q q refl) refl
+  at_quote x = grind arith
 
   content_is : (c x : List ℕ) → is_content q c ≡ true → content_at q (c ++ q ∷ x) ≡ Some c
   content_is [] x h = at_quote x

@@ -1,6 +1,6 @@
 -- Where a run, an indicator or a content ends is determined.
 use Rattle.std.specs.Prelude.{◌≡◌, ◌∷◌, ◌++◌, ◌⊎◌}
-use Rattle.cborn_lex.proofs.Common.{refl, sym, ap, ◌∙◌, ℕ, List, [], Bool, true, false, not, cond, eqb, inl, inr, append-nil, cond-true, cond-false, and_parts, and_from, eq-eqb, eqb-true, not-false, both_ways, append_cancel_left, list_all, begins, is_word, is_not, IsRun, IsIndicator}
+use Rattle.cborn_lex.proofs.Common.{arith, refl, sym, ap, ◌∙◌, ℕ, List, [], Bool, true, false, not, cond, eqb, append-nil, cond-true, cond-false, and_parts, and_from, eq-eqb, eqb-true, not-false, both_ways, append_cancel_left, list_all, begins, is_word, is_not, IsRun, IsIndicator}
 
 pub rest : (s t z w : List ℕ) → s ≡ t → s ++ z ≡ t ++ w → z ≡ w
 rest s t z w e h = append_cancel_left s z w (h ∙ ap (λ x. x ++ w) (sym e))
@@ -40,9 +40,7 @@ indicator [] = []
 indicator (c ∷ y) = cond (eqb c 95) (c ∷ run is_word y) []
 
 pub indicator_is : (s z : List ℕ) → IsIndicator s z → indicator (s ++ z) ≡ s
-indicator_is [] [] h = refl
-indicator_is [] (c ∷ z) h = cond-false (eqb c 95) _ _ h
-indicator_is (c ∷ s) z h = cond-true (eqb c 95) _ _ h.0 ∙ ap (λ r. c ∷ r) (run_is is_word s z h.1.pass h.1.ends)
+indicator_is s z h1 = grind (arith, cond-false, cond-true, run_is)
 
 pub one_indicator : (s t z w : List ℕ) → IsIndicator s z → IsIndicator t w → s ++ z ≡ t ++ w → s ≡ t
 one_indicator s t z w h k e = sym (indicator_is s z h) ∙ (ap indicator e ∙ indicator_is t w k)
@@ -80,8 +78,7 @@ module _ (q : ℕ) where
   stops x = ap not (eq-eqb q q refl)
 
   found_from : (y z s : List ℕ) → y ≡ s ++ z → list_all (is_not q) s ≡ true → begins (is_not q) z ≡ false → Found (list_all (is_not q)) q y ⊎ (list_all (is_not q) y ≡ true)
-  found_from y [] s e h k = inr (rw e (rw append-nil h))
-  found_from y (c ∷ z) s e h k = inl (record { content = s; after = z; inside = h; text = e ∙ ap (λ d. s ++ d ∷ z) (eqb-true c q (not-false (eqb c q) k)) })
+  found_from y z s h1 h2 h3 = grind (arith, append-nil, eqb-true, not-false)
 
   plain_apart : (c x : List ℕ) → list_all (is_not q) c ≡ true → list_all (is_not q) (c ++ q ∷ x) ≡ true → ⊥
   plain_apart [] x h k = both_ways (not (eqb q q)) (stops x) (and_parts _ _ k).0

@@ -1,6 +1,6 @@
 -- A number's parts as slices of what follows its first character.
-use Rattle.std.specs.Prelude.{◌≡◌, ◌+◌, ◌≤◌, ◌∷◌, ◌++◌, ◌&&◌}
-use Rattle.cborn_lex.proofs.Common.{refl, sym, ap, ◌∙◌, subst, ℕ, List, [], length, take, drop, Bool, true, false, not, cond, eqb, arith, append_assoc, and_parts, take-append-drop, take-append_seam, drop-append_seam, length-append, length-take-le, length-drop, begins, is_numeral, mark_of, integer, number_front, IsRun, IsIndicator, IsTag, ReadsNumber}
+use Rattle.std.specs.Prelude.{◌≡◌, ◌+◌, ◌≤◌, ◌++◌, ◌&&◌}
+use Rattle.cborn_lex.proofs.Common.{refl, sym, ap, ◌∙◌, subst, ℕ, List, [], length, take, drop, Bool, true, false, not, cond, eqb, arith, append_assoc, take-append-drop, take-append_seam, drop-append_seam, length-append, length-take-le, length-drop, begins, is_numeral, mark_of, integer, number_front, IsRun, IsIndicator, IsTag, ReadsNumber}
 
 -- where the front of x is s
 pub front_is : (n : ℕ) (x s z : List ℕ) → x ≡ s ++ z → length s ≡ n → (take n x ≡ s) × (drop n x ≡ z)
@@ -24,14 +24,10 @@ number_of negative tagged first body mark tag z x k e l run indicator tag-is =
     )
 
 tag_is : (negative : Bool) (x : List ℕ) → (not negative && begins (λ c. eqb c 40) x) ≡ true → IsTag negative true (take 1 x) (drop 1 x)
-tag_is false [] h = cc
-tag_is true [] h = cc
-tag_is false (c ∷ x) h = (refl, refl, h, refl)
-tag_is true (c ∷ x) h = cc
+tag_is negative x h1 = grind arith
 
 one_long : (negative : Bool) (x : List ℕ) → (not negative && begins (λ c. eqb c 40) x) ≡ true → length (take 1 x) ≡ 1
-one_long negative [] h = let hs = and_parts (not negative) false h in cc
-one_long negative (c ∷ x) h = refl
+one_long negative x h1 = grind arith
 
 pub number_tagged : (negative : Bool) (first x : List ℕ) (n m : ℕ) → n ≤ length x → m ≤ length (drop n x) → IsRun is_numeral (take n x) (drop n x) → IsIndicator (take m (drop n x)) (drop m (drop n x)) → (not negative && begins (λ c. eqb c 40) (drop m (drop n x))) ≡ true
     → ReadsNumber negative first (take (n + m + 1) x) (drop (n + m + 1) x) (number_front negative true (mark_of (take m (drop n x))) (integer negative (first ++ take n x)))
@@ -43,8 +39,7 @@ number_tagged negative first x n m h k run indicator some =
     (subst (λ (y : List ℕ). IsIndicator (take m (drop n x)) y) (sym (take-append-drop 1 z)) indicator) (tag_is negative z some)
 
 tag_fits : (negative : Bool) (x : List ℕ) → (not negative && begins (λ c. eqb c 40) x) ≡ true → 1 ≤ length x
-tag_fits negative [] h = let hs = and_parts (not negative) false h in cc
-tag_fits negative (c ∷ x) h = omega arith
+tag_fits negative x h1 = grind arith
 
 pub record IsNumberAt (negative tagged : Bool) (first x after more text : List ℕ) (n m k : ℕ) : Type 0 where
   pub after_is : after ≡ drop n x

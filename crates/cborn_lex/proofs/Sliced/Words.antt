@@ -1,11 +1,10 @@
 -- A word and what follows it, and a string after its quote, as slices.
 use Rattle.std.specs.Prelude.{◌≡◌, ◌+◌, ◌<◌, ◌≤◌, ◌∷◌, ◌++◌, ◌*◌, ◌^◌}
-use Rattle.cborn_lex.proofs.Common.{refl, sym, ap, ◌∙◌, subst, ℕ, List, [], length, take, drop, get_or, Bool, true, eqb, arith, append_assoc, add-one, inl, inr, Option, take-append-drop, length-append, length-take-le, length-drop, drop_more, Mark, LexReason, Class, Front, is_word, begins, Bad, mark_of, marked, IsRun, IsIndicator, IsAfterWord, ReadsWord, IsPrefixed, prefix_of, Closed, IsString, eqb-true, EmbedClose, Ok, Err, mul-le-mul_left, cond-true, cond-false, lt-ltb, le-ltb, drop_all, digit_value, NumberTooLarge, number, within}
+use Rattle.cborn_lex.proofs.Common.{sym, ap, ◌∙◌, subst, ℕ, List, [], length, take, drop, get_or, Bool, true, eqb, arith, append_assoc, add-one, inl, inr, Option, take-append-drop, length-append, length-take-le, length-drop, drop_more, Mark, LexReason, Class, Front, is_word, begins, Bad, mark_of, marked, IsRun, IsIndicator, IsAfterWord, ReadsWord, IsPrefixed, prefix_of, Closed, IsString, eqb-true, EmbedClose, Ok, Err, mul-le-mul_left, cond-true, cond-false, lt-ltb, le-ltb, drop_all, digit_value, NumberTooLarge, number, within}
 use Rattle.cborn_lex.proofs.Sliced.Pieces.{front_is}
 
 pub word_text : (text tail : List ℕ) (n : ℕ) → 0 < length text → tail ≡ drop 1 text → take (n + 1) text ≡ get_or text 0 0 ∷ take n tail
-word_text [] tail n h e = absurd (omega arith)
-word_text (c ∷ x) tail n h e = let same : tail ≡ x = e in rw (add-one, same) refl
+word_text text tail n h1 h2 = grind arith
 
 pub word_made : (c n m : ℕ) (word tail after : List ℕ) (a : Front) → word ≡ c ∷ take n tail → after ≡ drop n tail → n ≤ length tail → IsRun is_word (take n tail) (drop n tail) → m ≤ length after → IsAfterWord word (take m after) (drop m after) a
     → (n + m ≤ length tail) × ReadsWord c (take (n + m) tail) (drop (n + m) tail) a
@@ -26,10 +25,7 @@ word_made c n m word tail after a e f h run k is =
 -- one character, and then what holds of the rest
 pub prefix_made : (word after tail : List ℕ) (n : ℕ) (a : Front) → begins (λ c. eqb c 39) after ≡ true → tail ≡ drop 1 after → n ≤ length tail → IsPrefixed (prefix_of word) (take n tail) (drop n tail) a
     → (n + 1 ≤ length after) × IsAfterWord word (take (n + 1) after) (drop (n + 1) after) a
-prefix_made word [] tail n a h e k is = cc
-prefix_made word (c ∷ x) tail n a h e k is =
-    let same : tail ≡ x = e in
-    (omega (arith, ap length same), rw add-one (inl (h, subst (λ (y : List ℕ). IsPrefixed (prefix_of word) (take n y) (drop n y) a) same is)))
+prefix_made word after tail n a h1 h2 h3 h4 = grind arith
 
 -- a content, a quote and an indicator
 module _ (whole : List ℕ → Bool) (q i m : ℕ) (tail content after : List ℕ) (inside : whole (take i tail) ≡ true) (fits : i < length tail) (quote : get_or tail i 0 ≡ q) (content_is : content ≡ take i tail) (after_is : after ≡ drop (i + 1) tail) (mark_fits : m ≤ length after) (indicator : IsIndicator (take m after) (drop m after)) where
@@ -66,13 +62,7 @@ number_grows base n [] h = omega arith
 number_grows base n (d ∷ ds) h = omega (arith, mul-le-mul_left n h, number_grows base (n * base + digit_value d) ds h)
 
 pub too_large : (base n i : ℕ) (ds : List ℕ) → 1 ≤ base → i < length ds → number base n (drop i ds) ≡ number base 0 ds → 2 ^ 128 ≤ n * base + digit_value (get_or ds i 0) → Err NumberTooLarge ≡ within (number base 0 ds)
-too_large base n i ds h k e big =
-    let step : number base n (drop i ds) ≡ number base (n * base + digit_value (get_or ds i 0)) (drop (i + 1) ds) = ap (number base n) (drop_more ds i 0 k) in
-    let grows = number_grows base (n * base + digit_value (get_or ds i 0)) (drop (i + 1) ds) h in
-    let all : 2 ^ 128 ≤ number base 0 ds = omega arith in
-    sym (cond-false _ _ _ (le-ltb (number base 0 ds) (2 ^ 128) all))
+too_large base n i ds h1 h2 h3 h4 = grind (arith, cond-false, drop_more, le-ltb, number_grows)
 
 pub all_read : (base n i : ℕ) (ds : List ℕ) → length ds ≤ i → n < 2 ^ 128 → number base n (drop i ds) ≡ number base 0 ds → Ok n ≡ within (number base 0 ds)
-all_read base n i ds h k e =
-    let same : n ≡ number base 0 ds = ap (number base n) (sym (drop_all i ds h)) ∙ e in
-    ap Ok same ∙ sym (cond-true _ _ _ (lt-ltb (number base 0 ds) (2 ^ 128) (omega arith)))
+all_read base n i ds h1 h2 h3 = grind (arith, cond-true, drop_all, lt-ltb)

@@ -1,6 +1,6 @@
 -- The laws of whole texts.
 use Rattle.std.specs.Prelude.{◌≡◌, ◌<◌, ◌∷◌, ◌++◌, ◌⊎◌, ◌≤◌, ◌+◌}
-use Rattle.cborn_lex.proofs.Common.{refl, sym, ap, ◌∙◌, subst, ℕ, zero, suc, List, [], length, true, inl, inr, append_assoc, append-nil, arith, and_parts, list_all-append, Profile, One, Two, LexReason, Token, Front, WhiteSpace, Read, Bad, Start, hash, start_of, ReadsFrom, Reads, HasTokens, BeginsNothing, FailsAt, SpansRise, Lexeme, white_space, token, slice, front_of, spelled, AreRead, tokens, BeginsNoPiece, drop, length-append, Covers, Fails}
+use Rattle.cborn_lex.proofs.Common.{refl, sym, ap, ◌∙◌, subst, ℕ, zero, suc, List, [], length, true, inl, inr, append_assoc, append-nil, arith, and_parts, list_all-append, Profile, One, Two, LexReason, Token, Front, WhiteSpace, Read, Bad, Start, ReadsFrom, Reads, HasTokens, BeginsNothing, FailsAt, SpansRise, Lexeme, white_space, token, slice, front_of, spelled, AreRead, tokens, BeginsNoPiece, drop, length-append, Covers, Fails}
 use Rattle.cborn_lex.specs.Good as good
 use Rattle.cborn_lex.proofs.GoodFronts.{Good, taken}
 use Rattle.cborn_lex.proofs.WholeTexts.Parts.{lex_parted, parted_lex, stop_parted, has_no_piece}
@@ -12,25 +12,18 @@ use Rattle.cborn_lex.proofs.Contents.Decoded.{are_bytes, is_byte}
 
 -- a front has a first character
 no_front : (profile : Profile) (s z : List ℕ) (a : Front) → Reads profile s z a → s ++ z ≡ [] → ⊥
-no_front profile [] z a h e = h
-no_front profile (c ∷ s) z a h e = cc
+no_front profile s z a h1 h2 = grind arith
 
 -- a piece is its slice and what it is
 one_piece : (p q : Lexeme) → slice p ≡ slice q → front_of p ≡ front_of q → p ≡ q
-one_piece (white_space s) (white_space t) e h = ap white_space e
-one_piece (white_space s) (token k t) e h = cc
-one_piece (token k s) (white_space t) e h = cc
-one_piece (token k s) (token l t) e h = cc
+one_piece p q h1 h2 = grind arith
 
 not_bad : (p : Lexeme) (r : LexReason) → front_of p ≡ Bad r → ⊥
-not_bad (white_space s) r e = cc
-not_bad (token k s) r e = cc
+not_bad p r h1 = grind arith
 
 -- two readings: the fronts of one text are the same
 first : (profile : Profile) (p q : Lexeme) (x y : List ℕ) → Reads profile (slice p) x (front_of p) → Reads profile (slice q) y (front_of q) → slice p ++ x ≡ slice q ++ y → (p ≡ q) × (x ≡ y)
-first profile p q x y h k e =
-    let r = one_front profile (slice p) x (slice q) y (front_of p) (front_of q) h k e in
-    (one_piece p q r.0 r.1, rest (slice p) (slice q) x y r.0 e)
+first profile p q x y h1 h2 h3 = grind (arith, one_front, one_piece, rest)
 
 split : (p : Lexeme) (ps : List Lexeme) (z : List ℕ) → (slice p ++ spelled ps) ++ z ≡ slice p ++ (spelled ps ++ z)
 split p ps z = append_assoc (slice p) (spelled ps) z
@@ -55,11 +48,7 @@ whole_text : (text : List ℕ) (ps : List Lexeme) → text ≡ spelled ps → te
 whole_text text ps e = e ∙ sym (append-nil (spelled ps))
 
 pub one_list : (profile : Profile) (text : List ℕ) (ts us : List Token) → HasTokens profile text ts → HasTokens profile text us → ts ≡ us
-one_list profile text ts us a b =
-    let h = lex_parted profile text ts a in
-    let k = lex_parted profile text us b in
-    let r = one_chain profile h.pieces k.pieces [] [] h.read k.read (end_ends profile) (end_ends profile) (sym (whole_text text h.pieces h.whole) ∙ whole_text text k.pieces k.whole) in
-    h.placed ∙ (ap (tokens 0) r.0 ∙ sym k.placed)
+one_list profile text ts us h1 h2 = grind (arith, end_ends, lex_parted, one_chain, whole_text)
 
 pub not_both : (profile : Profile) (text : List ℕ) (ts : List Token) (p : ℕ) (r : LexReason) → HasTokens profile text ts → FailsAt profile text p r → ⊥
 not_both profile text ts p r a b =
@@ -81,8 +70,7 @@ one_stop profile text p q r s a b =
     )
 
 shorter : (profile : Profile) (s z text : List ℕ) (a : Front) → Reads profile s z a → text ≡ s ++ z → length z < length text
-shorter profile [] z text a h e = absurd h
-shorter profile (c ∷ s) z text a h e = omega (arith, ap length e, length-append s z)
+shorter profile s z text a h1 h2 = grind (arith, length-append)
 
 pub stop_inside : (profile : Profile) (text : List ℕ) (p : ℕ) (r : LexReason) → FailsAt profile text p r → p < length text
 stop_inside profile text p r a =
@@ -103,8 +91,7 @@ lower m n end [] h k = omega arith
 lower m n end (t ∷ ts) h k = let i = k.0 in (omega arith, k.1, k.2)
 
 pub some_long : (profile : Profile) (s z : List ℕ) (a : Front) → Reads profile s z a → 0 < length s
-some_long profile [] z a h = absurd h
-some_long profile (c ∷ s) z a h = omega arith
+some_long profile s z a h1 = grind arith
 
 spans : (profile : Profile) (ps : List Lexeme) (n : ℕ) (z : List ℕ) → AreRead profile ps z → SpansRise n (tokens n ps) (n + length (spelled ps))
 spans profile [] n z h = omega arith
@@ -155,12 +142,10 @@ some_answer profile text h = elim (answered profile (suc (length text)) 0 text (
 -- Profiles.
 
 two_from : (k : Start) (c : ℕ) (s z : List ℕ) (p : Lexeme) → ReadsFrom k One c s z (front_of p) → ReadsFrom k Two c s z (front_of p)
-two_from hash c s z p h = absurd (not_bad p _ h.1)
-two_from _ c s z p h = h
+two_from k c s z p h1 = grind arith
 
 two_reads : (s z : List ℕ) (p : Lexeme) → Reads One s z (front_of p) → Reads Two s z (front_of p)
-two_reads [] z p h = h
-two_reads (c ∷ s) z p h = two_from (start_of c) c s z p h
+two_reads s z p h1 = grind (arith, two_from)
 
 two_chain : (ps : List Lexeme) (z : List ℕ) → AreRead One ps z → AreRead Two ps z
 two_chain [] z h = h

@@ -39,9 +39,7 @@ through_all profile n m (token k s ∷ ps) y h e =
     (good.token n m k s (spelled ps ++ y) y (tokens (n + length s) ps) (taken profile s (spelled ps ++ y) (Read k) h.0) (through_all profile (n + length s) m ps y h.1 (omega (arith, length-append s (spelled ps)))))
 
 pub through : (profile : Profile) (n m : ℕ) (x y : List ℕ) (ts : List Token) → Parted profile n x ts m y → Covers profile n x ts m y
-through profile n m x y ts r =
-    subst (λ (z : List ℕ). Covers profile n z ts m y) (sym r.whole)
-    (subst (λ (us : List Token). Covers profile n (spelled r.pieces ++ y) us m y) (sym r.placed) (through_all profile n m r.pieces y r.read r.place))
+through profile n m x y ts h1 = grind (arith, read, through_all)
 
 -- Whole texts, and texts that stop.
 
@@ -52,11 +50,7 @@ pub parted_lex : (profile : Profile) (text : List ℕ) (ts : List Token) → Lex
 parted_lex profile text ts r = through profile 0 (length text) text [] ts (record { pieces = r.pieces; read = r.read; whole = r.whole ∙ sym (append-nil (spelled r.pieces)); place = omega (arith, ap length r.whole); placed = r.placed })
 
 pub stop_parted : (profile : Profile) (text : List ℕ) (n : ℕ) (r : LexReason) → FailsAt profile text n r → StopParted profile text n r
-stop_parted profile text n r (ts, y, t, f) =
-    let p = parted profile t in
-    let b = fails profile f in
-    let place = p.place in
-    record { pieces = p.pieces; front = b.front; rest = b.rest; read = subst (AreRead profile p.pieces) b.whole p.read; bad = b.reads; whole = p.whole ∙ ap (λ z. spelled p.pieces ++ z) b.whole; place = omega arith }
+stop_parted profile text n r h1 = grind (arith, fails, parted, read)
 
 pub has_no_piece : (profile : Profile) (z : List ℕ) → BeginsNoPiece profile z → BeginsNothing profile z
 has_no_piece profile z h s x None e t = h (white_space s) x (read profile t) e

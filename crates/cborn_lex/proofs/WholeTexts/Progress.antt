@@ -1,6 +1,6 @@
 -- A scan from piece to piece.
 use Rattle.std.specs.Prelude.{◌≡◌, ◌+◌, ◌<◌, ◌≤◌, ◌∷◌, ◌++◌}
-use Rattle.cborn_lex.proofs.Common.{Result, Ok, Err, IfErr, Fails, refl, sym, ap, ◌∙◌, subst, ℕ, List, [], length, take, drop, get_or, arith, add-one, take-append-drop, length-append, length-take-le, drop_all, drop-drop, get_or-drop, true, cond-true, Profile, LexReason, LexFault, Refused, OutOfMemory, Class, Token, Front, WhiteSpace, Read, Bad, is_white, Start, white, start_of, ReadsFrom, Reads, Covers, HasTokens, FailsAt, TokensBetween, HasNoTokens, HasNoTokenFrom, length-drop}
+use Rattle.cborn_lex.proofs.Common.{Result, IfErr, Fails, refl, ap, subst, ℕ, List, [], length, take, drop, get_or, arith, add-one, take-append-drop, length-append, length-take-le, drop_all, drop-drop, get_or-drop, true, Profile, LexReason, LexFault, Refused, OutOfMemory, Class, Token, Front, WhiteSpace, Read, Bad, is_white, start_of, ReadsFrom, Reads, Covers, HasTokens, TokensBetween, HasNoTokens, HasNoTokenFrom, length-drop}
 use Rattle.std.specs.Result.{IsErr, IsErrAnd}
 use Rattle.cborn_lex.specs.Good.{end, white_space, token}
 use Rattle.cborn_lex.proofs.GoodFronts.{taken as takes}
@@ -42,9 +42,7 @@ taken profile (token n m c s x y ts h t) =
     (omega (arith, r.0), omega (arith, r.1, length-append s x))
 
 pub inside : (profile : Profile) (text : List ℕ) (n m : ℕ) (ts : List Token) → n ≤ length text → TokensBetween profile text n m ts → (n ≤ m) × (m ≤ length text)
-inside profile text n m ts h k =
-    let r = taken profile k in
-    (omega (arith, r.0), omega (arith, r.1, length-drop n text, length-drop m text))
+inside profile text n m ts h1 h2 = grind (arith, length-drop, taken)
 
 -- a part read from another place on
 moved : (profile : Profile) {n m : ℕ} {x y : List ℕ} {ts : List Token} → Covers profile n x ts m y → (i : ℕ) → (j : ℕ) × (us : List Token) × (j + n ≡ m + i) × Covers profile i x us j y
@@ -69,15 +67,10 @@ after_blank profile text from at n h k r =
     (along profile at (at + length s) (at + n) (s ++ x) (drop at text) x (drop (at + n) text) [] [] e.0 refl (ap (λ m. at + m) e.1) e.2 (white_space at (at + length s) s x x [] (takes profile s x WhiteSpace r) (end (at + length s) x)))
 
 white_reads : (profile : Profile) (x : List ℕ) → 0 < length x → is_white (get_or x 0 0) ≡ true → Reads profile (take 1 x) (drop 1 x) WhiteSpace
-white_reads profile [] h k = absurd (omega arith)
-white_reads profile (c ∷ x) h k = subst (λ (s : Start). ReadsFrom s profile c [] x WhiteSpace) (sym (cond-true (is_white c) white _ k)) (refl, refl)
+white_reads profile x h1 h2 = grind arith
 
 pub after_white : (profile : Profile) (text : List ℕ) (from at : ℕ) → TokensBetween profile text from at [] → at < length text → is_white (get_or text at 0) ≡ true → TokensBetween profile text from (at + 1) []
-after_white profile text from at h k e =
-    let size : 0 < length (drop at text) = omega (arith, length-drop at text) in
-    let zero : at + 0 ≡ at = omega arith in
-    let here : get_or (drop at text) 0 0 ≡ get_or text at 0 = get_or-drop at text 0 0 ∙ ap (λ n. get_or text n 0) zero in
-    after_blank profile text from at 1 h size (white_reads profile (drop at text) size (ap is_white here ∙ e))
+after_white profile text from at h1 h2 h3 = grind (arith, after_blank, get_or-drop, length-drop, white_reads)
 
 pub then_token : (profile : Profile) (text : List ℕ) (from at n : ℕ) (class : Class) → TokensBetween profile text from at [] → n ≤ length (drop at text) → Reads profile (take n (drop at text)) (drop n (drop at text)) (Read class)
     → TokensBetween profile text from (at + n) (record { start = at; stop = at + n; class = class } ∷ [])
@@ -90,10 +83,7 @@ then_token profile text from at n class h k r =
     (token at (at + length s) class s x x [] (takes profile s x (Read class) r) (end (at + length s) x)))
 
 pub then_end : (profile : Profile) (text : List ℕ) (from at : ℕ) → from ≤ length text → TokensBetween profile text from at [] → length text ≤ at → TokensBetween profile text from (length text) []
-then_end profile text from at small h k =
-    let l = inside profile text from at [] small h in
-    let same : at ≡ length text = omega (arith, l.1) in
-    subst (λ (n : ℕ). TokensBetween profile text from n []) same h
+then_end profile text from at h1 h2 h3 = grind (arith, inside)
 
 pub then_stop : (profile : Profile) (text : List ℕ) (from at n : ℕ) (reason : LexReason) → TokensBetween profile text from at [] → Reads profile (take n (drop at text)) (drop n (drop at text)) (Bad reason) → HasNoTokenFrom profile text from (Refused at reason)
 then_stop profile text from at n reason h r =
@@ -103,8 +93,7 @@ then_stop profile text from at n reason h r =
 
 -- what reads, by an equal slice and front
 pub reads_at : (profile : Profile) (x y : List ℕ) (n : ℕ) (a b : Front) → x ≡ y → a ≡ b → n ≤ length x → Reads profile (take n x) (drop n x) a → (n ≤ length y) × Reads profile (take n y) (drop n y) b
-reads_at profile x y n a b e f h k =
-    (subst (λ (z : List ℕ). n ≤ length z) e h, subst (λ (c : Front). Reads profile (take n y) (drop n y) c) f (subst (λ (z : List ℕ). Reads profile (take n z) (drop n z) a) e k))
+reads_at profile x y n a b h1 h2 h3 h4 = grind arith
 
 -- Whole texts.
 
@@ -122,8 +111,7 @@ stops profile text m n ts (Refused p r) h (q, e, (us, y, k, bad)) =
 
 -- LAW: the stop of a whole text
 pub whole_stop : (profile : Profile) (text : List ℕ) (e : LexFault) → HasNoTokenFrom profile text 0 e → HasNoTokens profile text e
-whole_stop profile text OutOfMemory h = tt
-whole_stop profile text (Refused p r) (q, e, h) = let same : q ≡ p = omega arith in subst (λ (n : ℕ). FailsAt profile text n r) same h
+whole_stop profile text e h1 = grind arith
 
 -- a token takes some bytes
 pub few : (profile : Profile) (text : List ℕ) (n m : ℕ) (ts : List Token) → TokensBetween profile text n m ts → n + length ts ≤ m
@@ -131,5 +119,4 @@ few profile text n m ts h = (taken profile h).0
 
 -- a fault that is passed on
 pub passed_on : {A E : Type 0} (r : Result A E) (x : E) (P : E → Type 0) → P x → IsErr r × IsErrAnd r (λ e. e ≡ x) → IfErr r P
-passed_on (Ok a) x P p h = tt
-passed_on (Err e) x P p h = subst P (sym h.1) p
+passed_on r x P h1 h2 = grind arith

@@ -1,6 +1,6 @@
 -- What a token weighs: one, and the bytes of its content. The tokens of a text weigh no more than four times its length.
-use Rattle.std.specs.Prelude.{◌≡◌, ◌+◌, ◌-◌, ◌*◌, ◌%◌, ◌^◌, ◌<◌, ◌≤◌, ◌∷◌, ◌++◌, ◌&&◌}
-use Rattle.cborn_lex.proofs.Common.{refl, sym, ap, ◌∙◌, subst, ℕ, suc, List, [], length, take, drop, map, replicate, Bool, true, false, not, cond, ltb, eqb, inl, inr, Option, Some, None, Result, Ok, Err, arith, length-append, length-map, length-replicate, take-append-drop, cond_both, and_parts, and_from, lt-ltb, ltb-true, list_all-append, list_all, list_any, flat_map, filter, encode_utf8, encode_utf8_all, is_digit, digit_value, standard, Profile, One, Two, Mark, Class, ArrayOpen, MapOpen, EmbedClose, ChunkOpen, TagOpen, Word, Text, Bytes, Token, LexReason, NumberTooLarge, Front, WhiteSpace, Read, Bad, mark_of, marked, is_white, is_not, integer, within, signed, number_front, word_front, escape_code, are_hex, code, is_high, is_low, IsText, HasDigits, nothing, space, comment, IsHex, to_standard, filled, IsBase64, is_content, is_unclosed, Letter, raw, escaped, unit, pair, written, meant, is_letter, IsString, Prefix, hexadecimal, base64, unknown, prefix_of, IsPrefixed, IsAfterWord, ReadsNumber, double, simple, Start, white, slash, hash, less, greater, paren, letter, minus, digit, other, single, opening, start_of, paren_front, ReadsFrom, Reads, HasTokens, TokensBetween, Lexeme, white_space, token, spelled, AreRead, tokens, AreModest, IsModest}
+use Rattle.std.specs.Prelude.{◌≡◌, ◌+◌, ◌-◌, ◌*◌, ◌^◌, ◌<◌, ◌≤◌, ◌∷◌, ◌++◌, ◌&&◌}
+use Rattle.cborn_lex.proofs.Common.{refl, sym, ap, ◌∙◌, subst, ℕ, suc, List, [], length, take, drop, map, Bool, true, false, not, cond, ltb, eqb, inl, inr, Option, Some, None, Result, Ok, Err, arith, length-append, length-map, length-replicate, take-append-drop, cond_both, and_parts, and_from, lt-ltb, ltb-true, list_all-append, list_all, flat_map, filter, encode_utf8, encode_utf8_all, standard, Profile, One, Two, Mark, Class, ArrayOpen, MapOpen, EmbedClose, ChunkOpen, TagOpen, Word, Text, Bytes, Token, LexReason, NumberTooLarge, Front, WhiteSpace, Read, Bad, mark_of, marked, is_white, is_not, integer, within, signed, number_front, word_front, escape_code, are_hex, code, is_high, is_low, IsText, HasDigits, nothing, space, comment, IsHex, to_standard, filled, IsBase64, is_content, is_unclosed, Letter, raw, escaped, unit, pair, written, meant, is_letter, IsString, Prefix, hexadecimal, base64, unknown, prefix_of, IsPrefixed, IsAfterWord, ReadsNumber, double, simple, Start, white, slash, hash, less, greater, paren, letter, minus, digit, other, single, opening, start_of, paren_front, ReadsFrom, Reads, HasTokens, TokensBetween, Lexeme, white_space, token, spelled, AreRead, tokens, AreModest, IsModest}
 use Rattle.std.specs.Str.{IsUtf8, all_scalars}
 use lib.Utf8.{encode, scalar, scalar_cases}
 use Rattle.hex.proofs.HexLemmas.{decode_of-ok}
@@ -61,11 +61,7 @@ AreFew n x = AreBytes x × (length x ≤ n)
 
 encoded : (c : ℕ) → c < 2 ^ 21 → AreFew 4 (encode_utf8 c)
 unfolding encode
-encoded c h =
-    cond_both (ltb c 128) _ _ (AreFew 4) (λ e. let l = ltb-true c 128 e in ((omega arith, tt), omega arith))
-    (λ e. cond_both (ltb c 2048) _ _ (AreFew 4) (λ e. let l = ltb-true c 2048 e in ((omega arith, (omega arith, tt)), omega arith))
-    (λ e. cond_both (ltb c 65536) _ _ (AreFew 4) (λ e. let l = ltb-true c 65536 e in ((omega arith, (omega arith, (omega arith, tt))), omega arith))
-    (λ e. ((omega arith, (omega arith, (omega arith, (omega arith, tt)))), omega arith))))
+encoded c h1 = grind arith
 
 characters : (cs : List ℕ) → all_scalars cs ≡ true → AreBytes (encode_utf8_all cs)
 characters [] h = tt
@@ -85,11 +81,7 @@ escape_below : (e : ℕ) → e < 256 → escape_code e < 256
 escape_below e h = below (eqb e 98) 8 _ (omega arith) (below (eqb e 102) 12 _ (omega arith) (below (eqb e 110) 10 _ (omega arith) (below (eqb e 114) 13 _ (omega arith) (below (eqb e 116) 9 e (omega arith) h))))
 
 code_below : (a b c d : ℕ) → are_hex a b c d ≡ true → code a b c d < 2 ^ 16
-code_below a b c d h =
-    let hs = and_parts (is_digit a 16 && is_digit b 16) (is_digit c 16 && is_digit d 16) h in
-    let ls = and_parts (is_digit a 16) (is_digit b 16) hs.0 in
-    let rs = and_parts (is_digit c 16) (is_digit d 16) hs.1 in
-    omega (arith, ltb-true (digit_value a) 16 ls.0, ltb-true (digit_value b) 16 ls.1, ltb-true (digit_value c) 16 rs.0, ltb-true (digit_value d) 16 rs.1)
+code_below a b c d h1 = grind (arith, and_parts, ltb-true)
 
 pair_below : (m n : ℕ) → m < 2 ^ 16 → n < 2 ^ 16 → is_high m ≡ true → 0x1_0000 + (m - 0xD800) * 0x400 + (n - 0xDC00) < 2 ^ 21
 pair_below m n h k high = let hs = and_parts _ (ltb m 0xDC00) high in omega (arith, ltb-true m 0xDC00 hs.1)
@@ -152,10 +144,7 @@ few_kept p (c ∷ x) =
     cond_both (p c) (c ∷ filter p x) (filter p x) (λ y. length y ≤ suc (length x)) (λ e. omega arith) (λ e. omega arith)
 
 few_filled : (x : List ℕ) → length (filled x) ≤ length x + 3
-few_filled x =
-    let n = (4 - length x % 4) % 4 in
-    let size : length {A = ℕ} (replicate n 61) ≡ n = length-replicate {A = ℕ} n 61 in
-    cond_both (list_any (λ c. eqb c 61) x) x (x ++ replicate n 61) (λ y. length y ≤ length x + 3) (λ e. omega arith) (λ e. omega (arith, length-append x (replicate n 61)))
+few_filled x = grind (arith, cond_both, length-append, length-replicate)
 
 base64_spelled : AreSpelled IsBase64
 base64_spelled x bytes h is =
@@ -288,11 +277,7 @@ tokens_light profile (token k s ∷ ps) n z h is =
 
 -- LAW: the tokens of a text are modest, and weigh four times its length at most
 pub text_light : (profile : Profile) (text : List ℕ) (ts : List Token) → AreBytes text → HasTokens profile text ts → AreModest ts × (weigh ts ≤ 4 * length text)
-text_light profile text ts h a =
-    let lex = lex_parted profile text ts a in
-    let whole = lex.whole in
-    let r = tokens_light profile lex.pieces 0 [] (ap are_bytes (sym whole) ∙ as_test text h) lex.read in
-    rw lex.placed (r.0, omega (arith, r.1, ap length whole))
+text_light profile text ts h1 h2 = grind (arith, are_bytes, as_test, lex_parted, tokens_light)
 
 -- LAW: the tokens between two places of a text are modest, also if the text has a lexical fault after them
 pub between_modest : (profile : Profile) (text : List ℕ) (n m : ℕ) (ts : List Token) → AreBytes text → TokensBetween profile text n m ts → AreModest ts

@@ -1,11 +1,6 @@
-use Rattle.std.specs.Prelude.{◌≡◌}
-use Rattle.cborn_edn.proofs.Common.{sym, ap, ◌∙◌, true, false, arith, first_error, is_none, are_bytes}
-use Rattle.cborn_edn.proofs.Lemmas.{on_ok, silenced, outside, inside}
+use Rattle.cborn_edn.proofs.Common.{sym, arith, are_bytes}
+use Rattle.cborn_edn.proofs.Lemmas.{on_ok, outside, inside}
 use Rattle.cborn_edn.proofs.handing.hand.Goals as goal
-
-pub returns-then-not-is_none : goal.returns-then-not-is_none
-returns-then-not-is_none g c = λ s u ss e hands t. silenced (g.V.Visitor.holds c.args.visitor.now) c.args.spellers.now s u ss
-    (λ q. let bad : is_none c.args.error ≡ true = ap is_none (e ∙ ap first_error q) in absurd (let worse : false ≡ true = c.if-not-is_none.ensures ∙ bad in cc)) t
 
 pub returns-then-is_empty : goal.returns-then-is_empty
 returns-then-is_empty g c = on_ok c.hand_to.result (λ f s u ss e hands t. outside (g.V.Visitor.holds c.args.visitor.now) (g.V.Visitor.holds c.hand_to.new.visitor) c.args.event c.args.place c.args.content.now s u c.args.spellers.now ss (sym c.if-is_empty.ensures) (c.requires (sym c.if-not-is_none.ensures), are_bytes c.args.content.now c.type_inv.content, omega arith) f hands t) c.hand_to.ensures

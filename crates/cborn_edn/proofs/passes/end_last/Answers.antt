@@ -3,12 +3,6 @@ use Rattle.cborn_edn.specs.devices.Reading.{ends_string}
 use Rattle.cborn_edn.proofs.Lemmas.{on_ok, string_end, item_end, bare_end}
 use Rattle.cborn_edn.proofs.passes.end_last.Goals as goal
 
-pub end_item-requires : goal.end_item-requires
-end_item-requires g c =
-    let e = c.requires.3 in
-    let k = string_end c.requires.0 c.requires.1 c.requires.2 (ap ends_string (sym e.shows.phase) ∙ sym c.ends_string.ensures ∙ c.if-ends_string.true) in
-    (in_row at_top k.0, k.1, subst (λ (u : State). Reads (g.V.Visitor.holds c.args.visitor.now) c.args.here c.args.writer.now c.args.writer.now.pieces.items u) (sym k.2) e)
-
 pub returns-then-ends_string : goal.returns-then-ends_string
 returns-then-ends_string g c = on_ok c.end_item.result (λ h s t last e.
     let k = string_end s t last (ap ends_string (sym e.shows.phase) ∙ sym c.ends_string.ensures ∙ c.if-ends_string.true) in

@@ -1,13 +1,6 @@
-use Rattle.std.specs.Prelude.{◌+◌}
-use Rattle.cborn_edn.proofs.Common.{sym, ap, ◌∙◌, subst, ℕ, List, [], get_or, arith, TokensBetween, is_white}
-use Rattle.cborn_edn.proofs.Lemmas.{white_here, skipped}
+use Rattle.cborn_edn.proofs.Common.{subst, ℕ, List, [], arith, TokensBetween}
+use Rattle.cborn_edn.proofs.Lemmas.{skipped}
 use Rattle.cborn_edn.proofs.quick.take_white_space.Goals as goal
-
-pub returns-then-not-begins_white_space-2 : goal.returns-then-not-begins_white_space-2
-returns-then-not-begins_white_space-2 g c =
-    let at = c.args.here.now.at in
-    let s = skipped c.requires.0 (at + 1) (white_here c.args.source.profile c.args.source.text.now at c.requires.1 (ap (λ (x : List ℕ). is_white (get_or x at 0)) (sym c.as_bytes-bytes.ensures.value) ∙ ap is_white c.if-bytes-here-eq32.true)) in
-    (s.0, s.1, λ e. omega arith)
 
 pub returns : goal.returns
 returns g c =

@@ -7,9 +7,7 @@ use Rattle.cborn_edn.proofs.Reader.Taking.{went, pieced, chunked, whole, taken_f
 use Rattle.cborn_edn.proofs.quick_ends.take_after_pieces.Goals as goal
 
 pub end_item-requires : goal.end_item-requires
-end_item-requires g c =
-    let k = pieced c.requires.inside.0 c.requires.builds (c.is_none.ensures ∙ ap not c.if-is_none.true) in
-    (k.0, k.1, k.3)
+end_item-requires g c = grind (arith, pieced)
 
 pub returns-then-is_none : goal.returns-then-is_none
 returns-then-is_none g c =

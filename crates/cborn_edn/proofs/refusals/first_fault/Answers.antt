@@ -1,5 +1,5 @@
 use Rattle.std.specs.Prelude.{◌∷◌, ◌++◌, ◌≡◌}
-use Rattle.cborn_edn.proofs.Common.{List, [], inl, inr, refl, arith, Token, joins, few, stops, subst, ℕ, length, Option, Some, None, TokensBetween, IsNextBareToken, BareToken, Class, Profile}
+use Rattle.cborn_edn.proofs.Common.{List, [], inl, refl, arith, joins, few, stops, subst, ℕ, length, Option, Some, None, TokensBetween, IsNextBareToken, BareToken, Class, Profile}
 use Rattle.cborn_lex.proofs.WholeTexts.Progress.{nothing, inside}
 use Rattle.cborn_edn.proofs.refusals.first_fault.Goals as goal
 
@@ -14,19 +14,10 @@ pub tokens-init : goal.tokens-init
 tokens-init c = (([], nothing c.args.profile c.args.text.now c.args.at), c.requires)
 
 pub tokens-preserved : goal.tokens-preserved
-tokens-preserved c =
-    let t = c.in-Ok-Some.token in
-    let inv = c.tokens.invariant in
-    let n = next_of c.args.profile c.args.text.now c.tokens.place c.in-Ok-Some.field-0 c.next_token.new.number c.clear.new.self.items c.next_token.new.out.items t c.in-Ok-Some.field-0-is c.in-Ok-Some.ensures.ok in
-    let one : List Token = record { start = t.start; stop = t.stop; class = n.0 } ∷ [] in
-    ((inv.0.0 ++ one, joins c.args.profile c.args.text.now c.args.at c.tokens.place t.stop inv.0.0 one inv.0.1 n.1), (inside c.args.profile c.args.text.now c.tokens.place t.stop one inv.1 n.1).1)
+tokens-preserved c = grind (arith, inside, joins, next_of)
 
 pub tokens-smaller : goal.tokens-smaller
-tokens-smaller c =
-    let t = c.in-Ok-Some.token in
-    let n = next_of c.args.profile c.args.text.now c.tokens.place c.in-Ok-Some.field-0 c.next_token.new.number c.clear.new.self.items c.next_token.new.out.items t c.in-Ok-Some.field-0-is c.in-Ok-Some.ensures.ok in
-    let one : List Token = record { start = t.start; stop = t.stop; class = n.0 } ∷ [] in
-    omega (arith, (inside c.args.profile c.args.text.now c.tokens.place t.stop one c.tokens.invariant.1 n.1).1, few c.args.profile c.args.text.now c.tokens.place t.stop one n.1)
+tokens-smaller c = grind (arith, few, inside, next_of)
 
 pub returns-in-Ok-None : goal.returns-in-Ok-None
 returns-in-Ok-None c =
@@ -35,6 +26,4 @@ returns-in-Ok-None c =
     inl (inv.0.0 ++ [], joins c.args.profile c.args.text.now c.args.at c.tokens.place _ inv.0.0 [] inv.0.1 last, refl)
 
 pub returns-in-Err : goal.returns-in-Err
-returns-in-Err c =
-    let inv = c.tokens.invariant in
-    inr (c.in-Err.stop, stops c.args.profile c.args.text.now c.args.at c.tokens.place inv.0.0 c.in-Err.stop inv.0.1 c.in-Err.ensures.refused, c.from.ensures)
+returns-in-Err c = grind (arith, stops)

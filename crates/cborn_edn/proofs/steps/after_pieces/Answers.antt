@@ -3,36 +3,12 @@ use Rattle.cborn_lex.specs.declared.classes.Kind.TheVariants as kinds
 use Rattle.cborn_edn.proofs.Lemmas.{if_ok, item_home, chunk_home, taken_as, taken_same, ended_same}
 use Rattle.cborn_edn.proofs.steps.after_pieces.Goals as goal
 
-pub end_item-requires : goal.end_item-requires
-end_item-requires g c =
-    let q = c.requires.shows in
-    let i = item_home q.0 (ap is_some (sym q.2.shows.chunks) ∙ c.is_none.ensures ∙ ap not c.if-is_none.true) in
-    (i.0, q.1, subst (λ (x : Home). Reads (g.V.Visitor.holds c.args.visitor.now) c.args.here.now c.args.writer.now c.args.writer.now.pieces.items (builds x q.1)) (sym i.1) q.2)
-
-pub after-requires-clause-shows : goal.after-requires-clause-shows
-after-requires-clause-shows g c =
-    let q = c.requires.shows in
-    let i = item_home q.0 (ap is_some (sym q.2.shows.chunks) ∙ c.is_none.ensures ∙ ap not c.if-is_none.true) in
-    (i.0, string q.1, c.in_ok-end_item.ensures i.0 q.1 (subst (λ (x : Home). Reads (g.V.Visitor.holds c.args.visitor.now) c.args.here.now c.args.writer.now c.args.writer.now.pieces.items (builds x q.1)) (sym i.1) q.2))
-
 pub returns-then-is_none : goal.returns-then-is_none
 returns-then-is_none g c = if_ok c.after.result _ _ (λ ok t h ps k x a p e none shows.
     let i = item_home h (ap is_some (sym shows.shows.chunks) ∙ c.is_none.ensures ∙ ap not c.if-is_none.true) in
     let was = subst (λ (y : Home). Reads (g.V.Visitor.holds c.args.visitor.now) c.args.here.now c.args.writer.now c.args.writer.now.pieces.items (builds y ps)) (sym i.1) shows in
     subst (λ (y : Home). Taken (g.V.Visitor.holds c.after.new.visitor) ok (builds y ps) k a c.after.new.here c.after.new.writer) i.1
     (taken_same (g.V.Visitor.holds c.after.new.visitor) ok (builds (as_item i.0) ps) (has i.0 (string ps)) k a c.after.new.here c.after.new.writer (ended_same i.0 ps k a none) (t i.0 (string ps) k x a p e (c.in_ok-end_item.ensures i.0 ps was)))) c.after.ensures
-
-pub end_chunk-requires : goal.end_chunk-requires
-end_chunk-requires g c =
-    let q = c.requires.shows in
-    let i = chunk_home q.0 (ap is_some (sym q.2.shows.chunks) ∙ c.is_none.ensures ∙ ap not c.if-is_none.false) in
-    (i.0, i.1, i.2, q.1, subst (λ (x : Home). Reads (g.V.Visitor.holds c.args.visitor.now) c.args.here.now c.args.writer.now c.args.writer.now.pieces.items (builds x q.1)) (sym i.3) q.2)
-
-pub end_chunk-requires-in-ParenClose : goal.end_chunk-requires-in-ParenClose
-end_chunk-requires-in-ParenClose g c =
-    let q = c.requires.shows in
-    let i = chunk_home q.0 (ap is_some (sym q.2.shows.chunks) ∙ c.is_none.ensures ∙ ap not c.if-is_none.false) in
-    (i.0, i.1, i.2, q.1, subst (λ (x : Home). Reads (g.V.Visitor.holds c.args.visitor.now) c.args.here.now c.args.writer.now c.args.writer.now.pieces.items (builds x q.1)) (sym i.3) q.2)
 
 pub returns-in_ok-end_chunk-in-Comma : goal.returns-in_ok-end_chunk-in-Comma
 returns-in_ok-end_chunk-in-Comma g c = λ h ps k x a p e none shows.

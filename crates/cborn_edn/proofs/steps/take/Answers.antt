@@ -1,5 +1,5 @@
 use Rattle.std.specs.Prelude.{◌≡◌, ◌⊎◌}
-use Rattle.cborn_edn.proofs.Common.{sym, ◌∙◌, subst, Phase, Wants, WantsMore, class_of, IsReady, EndsPieces, State, wants, has, builds, wants_number, has_number}
+use Rattle.cborn_edn.proofs.Common.{arith, sym, ◌∙◌, subst, Phase, Wants, WantsMore, class_of, IsReady, EndsPieces, State, wants, has, builds, wants_number, has_number}
 use Rattle.cborn_edn.proofs.Lemmas.{if_ok, is_has, is_wants, is_builds, is_wants_number, is_has_number, taken_as, still_taken, paren_handed, shown_kind, bare_taken, no_piece, no_chunk}
 use Rattle.cborn_edn.proofs.steps.take.Goals as goal
 
@@ -7,9 +7,7 @@ abbrev IsWanted : Phase → Type 0
 IsWanted p = (p ≡ Wants) ⊎ (p ≡ WantsMore)
 
 pub begin-requires-clause-ready : goal.begin-requires-clause-ready
-begin-requires-clause-ready g c =
-    let i = is_wants c.requires.0 (subst IsWanted c.requires.1.1.1.shows.shows.phase c.in-Wants.is) in
-    (i.0, subst (λ (t : State). IsReady (g.V.Visitor.holds c.args.visitor.now) c.args.token.kind c.args.number c.args.here.now c.args.writer.now t) (sym i.1) c.requires.1)
+begin-requires-clause-ready g c = grind (arith, is_wants)
 
 pub after-requires-clause-shows : goal.after-requires-clause-shows
 after-requires-clause-shows g c =

@@ -1,8 +1,7 @@
-use Rattle.std.specs.Prelude.{◌≡◌}
-use Rattle.cborn_edn.proofs.Common.{[], refl, sym, ap, ◌∙◌, subst, true, None, Class, text, bytes, no_item, takes_no_piece, in_row, in_embed, wants, builds, with_piece, step_by, at_home}
+use Rattle.cborn_edn.proofs.Common.{[], refl, sym, ◌∙◌, true, text, bytes, no_item, in_row, in_embed, wants, builds, with_piece, at_home}
 use Rattle.cborn_lex.specs.declared.classes.Kind.TheVariants as kinds
 use Rattle.cborn_edn.proofs.Grammar.Takes.{text_piece, bytes_piece, embed_opens}
-use Rattle.cborn_edn.proofs.Lemmas.{arm, appends_nothing, adding, not_text, embed_taken, start_inside, no_piece_taken, piece_handed}
+use Rattle.cborn_edn.proofs.Lemmas.{arm, appends_nothing, adding, not_text, embed_taken, start_inside, piece_handed}
 use Rattle.cborn_edn.proofs.steps.take_piece.Goals as goal
 
 pub add_piece-requires : goal.add_piece-requires
@@ -10,10 +9,6 @@ add_piece-requires g c = let q = c.requires.ready in start_inside c.args.token.k
 
 pub add_piece-requires-in-Bytes : goal.add_piece-requires-in-Bytes
 add_piece-requires-in-Bytes g c = let q = c.requires.ready in start_inside c.args.token.kind c.args.number c.args.here.now c.args.writer.now q.0 q.1.0 q.1.1.0 (sym c.takes_no_piece.ensures ∙ c.if-takes_no_piece.false) q.1.1.1
-
-pub returns-then-takes_no_piece : goal.returns-then-takes_no_piece
-returns-then-takes_no_piece g c = λ s base k a p r. subst (λ (q : Class). step_by s q a ≡ None) (sym r.stands.class)
-    (no_piece_taken s c.args.token.kind c.args.number r.stands.content a (ap takes_no_piece (sym r.shows.shows.phase) ∙ sym c.takes_no_piece.ensures ∙ c.if-takes_no_piece.true) c.requires.piece)
 
 pub returns-in-Text : goal.returns-in-Text
 returns-in-Text g c = λ s. let h = g.V.Visitor.holds c.args.visitor.now in adding c.args.token.kind c.args.number c.args.token.start c.args.here.now c.add_piece.new.here c.args.writer.now c.add_piece.new.writer s (sym c.takes_no_piece.ensures ∙ c.if-takes_no_piece.false) (λ home o. arm h c.args.token.kind (kinds.Text c.in-Text.mark) c.args.number c.args.token.start c.args.here.now c.add_piece.new.here c.args.writer.now c.add_piece.new.writer true (at_home home o) c.in-Text.is (λ x base a p e r.

@@ -1,5 +1,5 @@
-use Rattle.std.specs.Prelude.{◌≡◌, ◌+◌}
-use Rattle.cborn_lex.proofs.Common.{refl, sym, ap, ◌∙◌, [], subst, false, true, not, eqb, get_or, drop, nat_lt, append-nil, Some, lt-ltb, le-ltb, cond-false, ne_eqb, drop_more, strip, after, is_digit, cond-true, is_white, eq-eqb}
+use Rattle.std.specs.Prelude.{◌+◌}
+use Rattle.cborn_lex.proofs.Common.{arith, refl, sym, ap, ◌∙◌, false, true, not, eqb, get_or, drop, nat_lt, append-nil, lt-ltb, le-ltb, cond-false, ne_eqb, drop_more, strip, after, is_digit, cond-true, is_white, eq-eqb}
 use Rattle.cborn_lex.proofs.Contents.Hexes.{after_none, at_inside, at_digit, at_end, moved}
 use Rattle.cborn_lex.proofs.encoded.hex_digits.Goals as goal
 use Rattle.cborn_lex.proofs.encoded.hex_digits.Goals.{then-inside, else-inside+then-digit_of-lt16+in_ok-push, else-inside+else-digit_of-lt16+then-c-eq47, else-inside+else-digit_of-lt16+else-c-eq47+else-not-is_white, then-inside-2, else-inside-2}
@@ -29,19 +29,7 @@ loop-c-preserved c =
     ]
 
 pub returns : goal.returns
-returns c =
-    let end = at_end c.args.content.now c.loop-c.digits.items c.loop-c.c-index c.loop-c.inside c.loop-c-test.false c.loop-c.invariant in
-    elim c.if-inside-2.branch [
-      | then-inside-2 w ↦ rw w.result-is (end ∙ ap (λ i. after c.loop-c.digits.items (strip i [])) w.if-inside-2.true)
-      | else-inside-2 w ↦ rw w.result-is (end ∙ ap (λ i. after c.loop-c.digits.items (strip i [])) w.if-inside-2.false ∙ ap Some (append-nil c.loop-c.digits.items))
-    ]
+returns c = grind (arith, append-nil, at_end, else-inside-2, then-inside-2)
 
 pub returns-then-not-is_white : goal.returns-then-not-is_white
-returns-then-not-is_white c =
-    let x = c.args.content.now in
-    let k = c.loop-c.c-index in
-    let b = get_or x k 0 in
-    let ds = c.loop-c.digits.items in
-    let no = ap (λ n. nat_lt n 16) (sym c.digit_of.ensures) ∙ le-ltb c.digit_of.result 16 c.if-digit_of-lt16.false in
-    sym (subst (λ i. after ds (strip i (drop k x)) ≡ strip false x) c.if-inside.false c.loop-c.invariant) ∙ ap (λ y. after ds (strip false y)) (drop_more x k 0 c.loop-c-test.true)
-    ∙ ap (after ds) (cond-false _ _ _ no ∙ (cond-false _ _ _ (sym c.is_white.ensures ∙ c.if-not-is_white.true) ∙ cond-false _ _ _ (ne_eqb b 47 c.if-c-eq47.false)))
+returns-then-not-is_white c = grind (arith, cond-false, drop_more, le-ltb, nat_lt, ne_eqb)

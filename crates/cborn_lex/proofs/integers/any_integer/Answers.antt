@@ -1,12 +1,6 @@
-use Rattle.cborn_lex.proofs.Common.{refl, sym, ap, ◌∙◌, take, number, within, begins, is_numeral}
-use Rattle.cborn_lex.proofs.Decimals.{digits_pass, long_value}
+use Rattle.cborn_lex.proofs.Common.{sym, ap, ◌∙◌, number, within}
+use Rattle.cborn_lex.proofs.Decimals.{long_value}
 use Rattle.cborn_lex.proofs.integers.any_integer.Goals as goal
-
-pub returns-then-not-begins_numeral-clause-run : goal.returns-then-not-begins_numeral-clause-run
-returns-then-not-begins_numeral-clause-run c = record {
-  pass = digits_pass is_numeral (take c.digits_len-digits.result c.args.body.now) refl c.digits_len-digits.ensures.digits;
-  ends = ap (begins is_numeral) (sym c.rest_of.ensures) ∙ sym c.begins_numeral.ensures ∙ c.if-not-begins_numeral.true;
-}
 
 pub returns-then-not-begins_numeral-clause-value : goal.returns-then-not-begins_numeral-clause-value
 returns-then-not-begins_numeral-clause-value c =

@@ -1,5 +1,5 @@
 use Rattle.std.specs.Prelude.{◌+◌, ◌-◌, ◌*◌, ◌≡◌}
-use Rattle.cborn_lex.proofs.Common.{sym, ap, ◌∙◌, arith, inl, inr, get_or, false≢true, eq-eqb, eqb-true, ltb-true}
+use Rattle.cborn_lex.proofs.Common.{sym, ap, ◌∙◌, arith, inr, get_or, false≢true, eq-eqb, eqb-true, ltb-true}
 use Rattle.cborn_lex.proofs.Decimals.{digit_more, digit_numeral, below_more, fits_more, decimal_value, decimal_run, no_decimal}
 use Rattle.cborn_lex.proofs.integers.decimal_at.Goals as goal
 use Rattle.cborn_lex.proofs.integers.decimal_at.Goals.{then-len-eq0-via-then-len-eq0, then-len-eq0-via-else-len-eq0+then-tail-eq48, else-len-tail-via-then-len-tail+else-goes_on, else-len-tail-via-else-len-tail, then-len-gt1, else-len-gt1}
@@ -30,17 +30,10 @@ returns-then-len-eq19-clause-none c =
     no_decimal c.digits.len c.args.tail.now c.digits.invariant.0 c.digits.invariant.2 (λ l k. absurd (omega (arith, l, c.if-len-eq19.true))) (inr (inr (h.0, digit_numeral (get_or c.args.tail.now c.digits.len 0) c.in-Some.digit h.1 h.2)))
 
 pub returns-then-len-eq0-clause-none : goal.returns-then-len-eq0-clause-none
-returns-then-len-eq0-clause-none c = no_decimal c.digits.len c.args.tail.now c.digits.invariant.0 c.digits.invariant.2 (λ l. c.in_default.ensures.none) (elim c.then-len-eq0.branch [
-  | then-len-eq0-via-then-len-eq0 w ↦ inl w.if-len-eq0.true
-  | then-len-eq0-via-else-len-eq0+then-tail-eq48 w ↦ elim w.if-len-gt1.branch [
-    | then-len-gt1 v ↦ inr (inl (v.if-len-gt1.true, eqb-true (get_or c.args.tail.now 0 0) 48 (sym v.value-is ∙ w.if-tail-eq48.true)))
-    | else-len-gt1 v ↦ absurd (omega (arith, v.if-len-gt1.false, ltb-true 1 c.digits.len (sym v.value-is ∙ w.if-tail-eq48.true)))
-  ]
-])
+returns-then-len-eq0-clause-none c = grind (arith, else-len-gt1, eqb-true, ltb-true, no_decimal, then-len-eq0-via-else-len-eq0+then-tail-eq48, then-len-eq0-via-then-len-eq0, then-len-gt1)
 
 pub returns-then-goes_on-clause-none : goal.returns-then-goes_on-clause-none
-returns-then-goes_on-clause-none c =
-    no_decimal c.digits.len c.args.tail.now c.digits.invariant.0 c.digits.invariant.2 (λ l. c.in_default.ensures.none) (inr (inr (c.if-len-tail.true, sym c.goes_on.ensures ∙ c.if-goes_on.true)))
+returns-then-goes_on-clause-none c = grind (arith, no_decimal)
 
 pub returns-clause-run : goal.returns-clause-run
 returns-clause-run c = decimal_run c.digits.len c.args.tail.now c.digits.invariant.2 (λ h. elim c.else-len-tail.branch [

@@ -1,14 +1,6 @@
 use Rattle.cborn_lex.proofs.Common.{sym, ◌∙◌, refl, subst, arith, Front, word_front, FrontStandsFor}
 use Rattle.cborn_lex.proofs.TwoParts.{nothing_appended}
-use Rattle.cborn_lex.proofs.Sliced.Words.{prefix_made}
 use Rattle.cborn_lex.proofs.keywords.after_word.Goals as goal
-
-pub returns-in_ok-front : goal.returns-in_ok-front
-returns-in_ok-front c =
-    let h = c.in_ok-front.ensures in
-    let t = h.1 in
-    let p = prefix_made c.args.word.now c.args.after.now c.rest_of.result.now c.in_ok-front.n t.0 (sym c.begins_with.ensures ∙ c.if-begins_with.true) c.rest_of.ensures h.0 t.1 in
-    (p.0, (t.0, p.1, t.2))
 
 pub returns-else-begins_with : goal.returns-else-begins_with
 returns-else-begins_with c = (

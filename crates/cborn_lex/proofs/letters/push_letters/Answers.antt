@@ -16,15 +16,6 @@ returns-then-c-ne92-clause-letters c =
     let near : c.letters.at + c.in_ok-n.n < length c.args.tail.now = omega (arith, c.in_ok-n.ensures.within, c.if-at-tail.false) in
     λ old s. none_at_control c.args.quote c.args.tail.now old c.push_run.new.out.items (c.letters.at + c.in_ok-n.n) c.requires.double_or_single (run_more c.args.quote c.args.tail.now old c.letters.out.items c.push_run.new.out.items c.letters.at c.in_ok-n.n c.in_ok-n.ensures.plain c.in_ok-n.ensures.written (c.letters.invariant.1 old s)) near c.if-c-quote.false c.if-c-ne92.true (c.in_ok-n.ensures.ends near)
 
-pub push_short_runs-requires-clause-within : goal.push_short_runs-requires-clause-within
-push_short_runs-requires-clause-within c =
-    let near : c.letters.at + c.in_ok-n.n < length c.args.tail.now = omega (arith, c.in_ok-n.ensures.within, c.if-at-tail.false) in
-    let h = rw c.in-Some.is at c.in_ok-end.ensures.escape in
-    let w = escape_within c.args.quote c.args.tail.now (c.letters.at + c.in_ok-n.n) h.0 h.1 near c.if-c-ne92.false h.2 in
-    let e = h.3 in
-    let i = w.0 in
-    omega arith
-
 pub letters-smaller : goal.letters-smaller
 letters-smaller c =
     let after = c.in_ok-at-in-Some.ensures.within.0 in

@@ -1,18 +1,11 @@
-use Rattle.std.specs.Prelude.{◌≡◌, ◌<◌, ◌≤◌, ◌+◌, ◌-◌}
-use Rattle.cborn_lex.proofs.Common.{ℕ, List, length, take, drop, map, subst, sym, arith, take-length, mask_l, is_special, LettersSoFar}
+use Rattle.std.specs.Prelude.{◌<◌, ◌≤◌, ◌+◌}
+use Rattle.cborn_lex.proofs.Common.{ℕ, List, length, subst, sym, arith, take-length, LettersSoFar}
 use Rattle.cborn_lex.proofs.Runs.{short_run, short_run_more, left_more, escape_more, still}
 use Rattle.cborn_lex.proofs.letters.push_short_runs.Goals as goal
 use lib.Count.{count_trailing_zeros}
 
 pub escapes-init : goal.escapes-init
-escapes-init c =
-    let whole : 64 ≡ c.args.from + 64 - c.args.from = omega arith in (
-      omega arith,
-      omega arith,
-      subst (λ (w : ℕ). c.special_letters-left.result ≡ mask_l (map (is_special c.args.quote) (take w (drop c.args.from c.args.tail.now)))) whole c.special_letters-left.ensures,
-      λ old s. s,
-      take-length c.args.out.now.items,
-    )
+escapes-init c = grind (arith, take-length)
 
 pub returns-then-tail-at-ne92-clause-letters : goal.returns-then-tail-at-ne92-clause-letters
 returns-then-tail-at-ne92-clause-letters c =

@@ -13,11 +13,7 @@ tokens-preserved c =
     (rw c.in_ok-push.ensures.items (joins c.args.profile c.args.text.now 0 c.tokens.at c.in-Some.token.stop c.tokens.found.items (c.in-Some.token ∷ []) c.tokens.invariant.0 next), far.1)
 
 pub tokens-smaller : goal.tokens-smaller
-tokens-smaller c =
-    let next = subst (IsTokenFrom c.args.profile c.args.text.now c.tokens.at) c.in-Some.is c.in_ok-token.ensures.ok in
-    let far = inside c.args.profile c.args.text.now c.tokens.at c.in-Some.token.stop (c.in-Some.token ∷ []) c.tokens.invariant.1 next in
-    let more = few c.args.profile c.args.text.now c.tokens.at c.in-Some.token.stop (c.in-Some.token ∷ []) next in
-    omega (arith, far.1, more)
+tokens-smaller c = grind (arith, few, inside)
 
 pub returns-clause-ok : goal.returns-clause-ok
 returns-clause-ok c =
