@@ -1,6 +1,6 @@
 -- The first defect of nodes: where one departs, and what concludes of all.
 use Rattle.std.specs.Prelude.{◌≡◌, ◌≢◌, ◌↔◌, ◌⊎◌, ◌∷◌}
-use Rattle.cborn_judge.proofs.Common.{ℕ, List, sym, ◌∙◌, subst, Ordering, Less, Means, IsKeyOrder, Tree, IsProper, Value, Det, NotAbove, IsEncodedAs, same_itself, one_of_same, refl, Option, IsByteString, FindsDefect, LooseBytesAt, IsEarliestDefect, LooseAt, DefectIn, IsLoose, DefectAt, defect_rank, Within, DefectReason, Either, SomeDefect, inl, inr, [], None, Some, IsFirst, flaw_rank, spelled, Fits, trees, InvalidReason, DefectInAll, FlawIn, IsFirstFlaw, Defect, IsCheck, IsDeterministic}
+use Rattle.cborn_judge.proofs.Common.{arith, ℕ, List, subst, Ordering, Less, Means, IsKeyOrder, Tree, IsProper, Value, Det, NotAbove, IsEncodedAs, same_itself, one_of_same, refl, Option, IsByteString, FindsDefect, LooseBytesAt, IsEarliestDefect, LooseAt, DefectIn, DefectAt, defect_rank, Within, DefectReason, Either, SomeDefect, inl, inr, [], None, Some, IsFirst, flaw_rank, spelled, Fits, trees, InvalidReason, DefectInAll, FlawIn, IsFirstFlaw, Defect, IsCheck, IsDeterministic}
 use Rattle.cborn_model.proofs.Found as firsts
 use Rattle.cborn_judge.proofs.Meaning.Meanings.{means_once, string_once}
 use Rattle.cborn_judge.proofs.Encoded.Checking.{check_sound, check_whole}
@@ -10,18 +10,7 @@ use Rattle.cborn_judge.proofs.Encoded.Checking.{check_sound, check_whole}
 module _ (order : List ℕ → List ℕ → Ordering) (laws : IsKeyOrder order) where
   -- of keys that mean something the codes decide
   pub above_by_code : (m n : Tree × Tree) (c x : List ℕ) → IsEncodedAs order m.0 c → IsEncodedAs order n.0 x → NotAbove order m.0 n.0 ↔ (order c x ≢ Less)
-  above_by_code m n c x (v, mv, pv, dv) (w, mw, pw, dw) = (to, λ f. (v, w, c, x, mv, mw, dv, dw, f))
-    where
-      one : (u a : Value) (s t : List ℕ) (k : Tree) → Means k u → Means k a → IsProper u → Det order u s → Det order a t → s ≡ t
-      one u a s t k f g p d e =
-          let same : a ≡ u = means_once k a u g f in
-          one_of_same order laws u u s t p p (same_itself u) d (subst (λ z. Det order z t) same e)
-
-      to : NotAbove order m.0 n.0 → order c x ≢ Less
-      to (a, b, s, t, ma, mb, da, db, f) =
-          let first : c ≡ s = one v a c s m.0 mv ma pv dv da in
-          let second : x ≡ t = one w b x t n.0 mw mb pw dw db in
-          λ e. f ((λ i. order (sym first i) (sym second i)) ∙ e)
+  above_by_code m n c x h1 h2 = grind (arith, means_once, one_of_same, same_itself)
 
 -- ---- the first defect of a node without children, and of a bignum
 
@@ -39,8 +28,7 @@ module _ (order : List ℕ → List ℕ → Ordering) where
 
   -- a bignum by its bytes
   pub loose_found : (q n : ℕ) (t : Tree) (b c : List ℕ) (x : Option SomeDefect) → (n ≡ 2) ⊎ (n ≡ 3) → IsByteString t b → b ≡ c → FindsDefect (LooseBytesAt q c) x → FindsDefect (LooseAt q n t) x
-  loose_found q n t b c x tag is same h =
-      alike (LooseBytesAt q b) (LooseAt q n t) x (λ p r. ((λ d. (d.0, d.1, tag, b, is, d.2)), (λ d. (d.0, d.1, subst IsLoose (string_once t d.3 b d.4 is) d.5)))) (subst (λ z. FindsDefect (LooseBytesAt q z) x) (sym same) h)
+  loose_found q n t b c x h1 h2 h3 h4 = grind (arith, alike, string_once)
 
 -- ---- from what an encoder finds of a node alone to what the check says of it
 

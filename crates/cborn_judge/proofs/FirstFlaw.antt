@@ -30,8 +30,7 @@ passed_on (Err e) P Q f h = f e h.1
 -- ---- nodes that lie one after another
 
 no_sooner : (p q m n : ℕ) → q < p → NoLater (p, m) (q, n) → ⊥
-no_sooner p q m n l (inl h) = omega (arith, l, h)
-no_sooner p q m n l (inr h) = omega (arith, l, h.0)
+no_sooner p q m n h1 h2 = grind (arith, inl, inr)
 
 -- each flaw of a node is before those of the nodes after it
 abbrev pub AreApart : List Tree → Type 0

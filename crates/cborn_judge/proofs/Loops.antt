@@ -1,6 +1,6 @@
 -- What a loop over a list has passed, with the next element.
 use Rattle.std.specs.Prelude.{◌≡◌, ◌+◌, ◌<◌, ◌⊎◌, ◌∷◌, ◌++◌, ◌↔◌}
-use Rattle.cborn_judge.proofs.Common.{ℕ, inl, inr, List, [], length, get_or, take, sym, ap, ◌∙◌, subst, AllZip, take_more}
+use Rattle.cborn_judge.proofs.Common.{arith, ℕ, inl, inr, List, [], length, get_or, take, sym, ap, ◌∙◌, AllZip, take_more}
 
 pub passed_one : {A : Type 0} (xs : List A) (i : ℕ) (x : A) → i < length xs → x ≡ get_or xs i x → take (i + 1) xs ≡ take i xs ++ x ∷ []
 passed_one {A} xs i x l e = take_more xs i x l ∙ ap (λ (z : A). take i xs ++ z ∷ []) (sym e)
@@ -33,5 +33,4 @@ module _ {A B : Type 0} (R : A → B → Type 0) where
   zip_more xs ys x y h r = zip_append xs ys (x ∷ []) (y ∷ []) h (r, tt)
 
   pub zip-take_more : (xs : List A) (i : ℕ) (x : A) (ys zs : List B) (y : B) → i < length xs → x ≡ get_or xs i x → AllZip R (take i xs) ys → R x y → zs ≡ ys ++ y ∷ [] → AllZip R (take (i + 1) xs) zs
-  zip-take_more xs i x ys zs y l e h r z =
-      subst (λ t. AllZip R t zs) (sym (passed_one xs i x l e)) (subst (AllZip R (take i xs ++ x ∷ [])) (sym z) (zip_more (take i xs) ys x y h r))
+  zip-take_more xs i x ys zs y h1 h2 h3 h4 h5 = grind (arith, passed_one, take, zip_more)

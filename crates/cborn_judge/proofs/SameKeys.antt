@@ -1,6 +1,6 @@
 -- After a sort the repeated keys are those that tie with their neighbour.
-use Rattle.std.specs.Prelude.{◌≡◌, ◌≢◌, ◌<◌, ◌≤◌, ◌⊎◌, ◌∷◌, ◌↔◌, ◌&&◌}
-use Rattle.cborn_judge.proofs.Common.{ℕ, suc, inl, inr, List, [], refl, sym, ap, ◌∙◌, subst, arith, true, false, Bool, true≢false, add-one, IsPermutation, Ordering, Less, Equal, Greater, is_lt, eqb, ⊤, nat_cmp, ordering_then, ordering_reverse, AllByRecursion, IsSortedBy, IsPermutation-sym, eqb-true, eq-eqb, cases_eq, IsRepeated, IsIn, are_in_moved, Value, IsKeyOrder, Tree, Entries, no_entry, entry, Means, at_member}
+use Rattle.std.specs.Prelude.{◌≡◌, ◌<◌, ◌⊎◌, ◌∷◌, ◌↔◌, ◌&&◌}
+use Rattle.cborn_judge.proofs.Common.{ℕ, suc, inl, inr, List, [], refl, sym, ap, ◌∙◌, subst, arith, true, false, Bool, true≢false, add-one, IsPermutation, Ordering, Less, is_lt, eqb, ⊤, nat_cmp, ordering_then, ordering_reverse, AllByRecursion, IsSortedBy, IsPermutation-sym, eqb-true, eq-eqb, cases_eq, IsRepeated, IsIn, are_in_moved, Value, IsKeyOrder, Tree, Entries, no_entry, entry, Means, at_member}
 use Rattle.std.specs.List.{IsDistinct}
 use Rattle.cborn_det.proofs.Rising.{never_both, never_itself}
 use Rattle.std.proofs.lemmas.Map.Keys.{IsDistinct-IsPermutation, ge_from_not_lt}
@@ -78,10 +78,7 @@ module _ {X : Type 0} (order : List ℕ → List ℕ → Ordering) (laws : IsKey
   not_less_itself a b e l = never_itself order laws a (subst (λ c. order a c ≡ Less) (sym e) l)
 
   comes_on : (x y z : X) → Comes x y → Comes y z → Comes x z
-  comes_on x y z (inl h) (inl k) = inl (laws.along (bytes x) (bytes y) (bytes z) h k)
-  comes_on x y z (inl h) (inr k) = inl (subst (λ c. order (bytes x) c ≡ Less) k.0 h)
-  comes_on x y z (inr h) (inl k) = inl (subst (λ c. order c (bytes z) ≡ Less) (sym h.0) k)
-  comes_on x y z (inr h) (inr k) = inr (h.0 ∙ k.0, (λ s. let f = h.1 s in let g = k.1 (ap counts (sym h.0) ∙ s) in omega arith))
+  comes_on x y z h1 h2 = grind (arith, inl, inr)
 
   first_comes : (x : X) (xs : List X) (z : X) → InOrder (x ∷ xs) → IsIn z xs → Comes x z
   first_comes x [] z o i = absurd i
@@ -90,10 +87,7 @@ module _ {X : Type 0} (order : List ℕ → List ℕ → Ordering) (laws : IsKey
 
   -- between two with equal bytes stand none with others
   between : (x y z : X) → counts (bytes z) ≡ true → Comes x y → Comes y z → bytes x ≡ bytes z → (bytes x ≡ bytes y) × (position y < position z)
-  between x y z s (inl h) (inl k) e = absurd (never_both order laws (bytes x) (bytes y) h (subst (λ c. order (bytes y) c ≡ Less) (sym e) k))
-  between x y z s (inl h) (inr k) e = absurd (not_less_itself (bytes x) (bytes y) (e ∙ sym k.0) h)
-  between x y z s (inr h) (inl k) e = absurd (not_less_itself (bytes y) (bytes z) (sym h.0 ∙ e) k)
-  between x y z s (inr h) (inr k) e = (h.0, k.1 (ap counts k.0 ∙ s))
+  between x y z h1 h2 h3 h4 = grind (arith, inl, inr, never_both, not_less_itself)
 
   tied_earlier : (xs : List X) (z : X) → counts (bytes z) ≡ true → InOrder xs → IsTied bytes xs z → HasEarlier xs z
   tied_earlier (x ∷ y ∷ ys) z s o (inl t) =
@@ -139,24 +133,7 @@ module _ {X : Type 0} (order : List ℕ → List ℕ → Ordering) (laws : IsKey
   AtOnePlace x y = counts (bytes x) && (counts (bytes y) && eqb (position x) (position y))
 
   at_one_turned : (x y : X) → AtOnePlace x y ≡ AtOnePlace y x
-  at_one_turned x y = swapped (counts (bytes x)) (counts (bytes y)) (eqb (position x) (position y)) ∙ ap (λ b. counts (bytes y) && (counts (bytes x) && b)) (by (position x) (position y) (cases_eq (position x) (position y)))
-    where
-      swapped : (a b c : Bool) → a && (b && c) ≡ b && (a && c)
-      swapped true true c = refl
-      swapped true false c = refl
-      swapped false true c = refl
-      swapped false false c = refl
-
-      by : (m n : ℕ) → (m ≡ n) ⊎ (m ≡ n → ⊥) → eqb m n ≡ eqb n m
-      by m n (inl e) = eq-eqb m n e ∙ sym (eq-eqb n m (sym e))
-      by m n (inr e) = not_eq m n e ∙ sym (not_eq n m (λ f. e (sym f)))
-        where
-          not_eq : (m n : ℕ) → (m ≡ n → ⊥) → eqb m n ≡ false
-          not_eq m n e = go (eqb m n) refl
-            where
-              go : (b : Bool) → eqb m n ≡ b → eqb m n ≡ false
-              go true f = absurd (e (eqb-true m n f))
-              go false f = f
+  at_one_turned x y = grind (arith, cases_eq, eq-eqb, eqb, eqb-true, false, inl, inr, true)
 
   positions_apart : (xs : List X) → LieBefore counts bytes position xs → IsDistinct AtOnePlace xs
   unfolding IsDistinct
@@ -175,21 +152,7 @@ module _ {X : Type 0} (order : List ℕ → List ℕ → Ordering) (laws : IsKey
       apart_from x (y ∷ ys) h = (apart x y (h y (inl refl)), apart_from x ys (λ z i. h z (inr i)))
 
   comes_from : (x y : X) → is_lt (key_order order bytes position y x) ≡ false → AtOnePlace x y ≡ false → Comes x y
-  comes_from x y h k = by (order (bytes y) (bytes x)) refl h
-    where
-      by : (o : Ordering) → order (bytes y) (bytes x) ≡ o → is_lt (ordering_then o (nat_cmp (position y) (position x))) ≡ false → Comes x y
-      by Less q l = absurd (true≢false l)
-      by Equal q l =
-          let same : bytes x ≡ bytes y = sym (laws.exact (bytes y) (bytes x) q) in
-          let at_least : position x ≤ position y = ge_from_not_lt (position y) (position x) l in
-          inr (
-            same,
-            (λ s. elim (cases_eq (position x) (position y)) [
-              | inl e ↦ absurd (true≢false (sym ((λ i. s i && (((ap counts (sym same) ∙ s) i) && eq-eqb (position x) (position y) e i))) ∙ k))
-              | inr e ↦ let ne : position x ≢ position y = e in omega arith
-            ]),
-          )
-      by Greater q l = inl (laws.turned (bytes y) (bytes x) ∙ ap ordering_reverse q)
+  comes_from x y h1 h2 = grind (arith, cases_eq, eq-eqb, false, ge_from_not_lt, inl, inr, is_lt, nat_cmp, ordering_reverse, ordering_then, true≢false)
 
   in_order_sorted : (ys : List X) → IsSortedBy (λ x y. is_lt (key_order order bytes position x y)) ys → IsDistinct AtOnePlace ys → InOrder ys
   unfolding IsDistinct

@@ -1,20 +1,14 @@
 -- A node that means an item has no defect exactly if it spells the item's encoding.
 use Rattle.std.specs.Prelude.{◌≡◌, ◌≢◌, ◌⊎◌, ◌∷◌}
-use Rattle.cborn_judge.proofs.Common.{ℕ, inl, inr, List, [], length, refl, sym, ap, ◌∙◌, subst, Ordering, Less, Within, WithinAll, WithinEntries, IsLong, SizeDefect, NotAbove, Descends, HasDescent, DefectAt, Defect, SequenceDefect, DefectReason, LongHead, EndlessLength, LooseBignum, KeyOrder, Value, Values, Couples, no_values, value, no_pairs, pair, IsProper, AreProper, Width, Direct, One, Two, Four, Eight, least, Det, DetValues, keys, IsKeyOrder, Rising, Size, Tree, Uint, Nint, Bytes, Text, ByteChunks, TextChunks, Items, Pairs, Tagged, Simple, Trees, no_item, more, Entries, no_entry, entry, count, count_entries, place, Fixed, Endless, spelled, spelled_all, Fits, FitsAll, FitsEntries, Means, AllMean, EntriesMean, spelled_pairs, SizeIsTidy, IsTidy, AllTidy, EntriesTidy, one_of_same, same_itself, counted}
+use Rattle.cborn_judge.proofs.Common.{arith, ℕ, inl, inr, List, [], length, refl, sym, subst, Ordering, Less, Within, WithinAll, WithinEntries, IsLong, SizeDefect, NotAbove, Descends, HasDescent, DefectAt, Defect, SequenceDefect, DefectReason, LongHead, EndlessLength, LooseBignum, KeyOrder, Value, Values, Couples, no_values, value, no_pairs, pair, IsProper, AreProper, Width, least, Det, DetValues, keys, IsKeyOrder, Rising, Size, Tree, Uint, Nint, Bytes, Text, ByteChunks, TextChunks, Items, Pairs, Tagged, Simple, Trees, no_item, more, Entries, no_entry, entry, count, count_entries, place, Fixed, Endless, spelled, spelled_all, Fits, FitsAll, FitsEntries, Means, AllMean, EntriesMean, spelled_pairs, SizeIsTidy, IsTidy, AllTidy, EntriesTidy, one_of_same, same_itself, counted}
 use Rattle.cborn_judge.proofs.Meaning.Judging.{inner_means, within_itself}
 use Rattle.cborn_judge.proofs.Encoded.Tidying.{tidy_det, det_tidy, all_det, all_tidy, tidy_proper}
 
 same_or_not : (v w : Width) → (v ≡ w) ⊎ (v ≢ w)
-same_or_not Direct Direct = inl refl
-same_or_not One One = inl refl
-same_or_not Two Two = inl refl
-same_or_not Four Four = inl refl
-same_or_not Eight Eight = inl refl
-same_or_not _ _ = inr (λ e. cc)
+same_or_not v w = grind (arith, inl, inr)
 
 less_or_not : (o : Ordering) → (o ≡ Less) ⊎ (o ≢ Less)
-less_or_not Less = inl refl
-less_or_not _ = inr (λ e. cc)
+less_or_not o = grind (arith, inl, inr)
 
 not_long : (w : Width) (n : ℕ) → (IsLong w n → ⊥) → w ≡ least n
 not_long w n h = elim (same_or_not w (least n)) [ inl e ↦ e | inr e ↦ absurd (h e) ]
@@ -54,8 +48,7 @@ module _ (order : List ℕ → List ℕ → Ordering) (laws : IsKeyOrder order) 
       one_of_same order laws v v x (spelled t) p p (same_itself v) d (tidy_det order t v k.0 m k.1)
 
   not_descending : (k l : Tree) → Known k → Known l → order (spelled k) (spelled l) ≡ Less → NotAbove order k l → ⊥
-  not_descending k l h j e (a, b, x, y, m, n, d, f, g) =
-      g (ap (λ z. order z y) (spells_it k a x h m d) ∙ ap (order (spelled k)) (spells_it l b y j n f) ∙ e)
+  not_descending k l h1 h2 h3 h4 = grind (arith, spelled, spells_it)
 
   rises_along : (k : Tree) (es : Entries) (p : ℕ) → Known k → FitsEntries es → EntriesTidy order es → Rising order (spelled k ∷ keys (spelled_pairs es)) → Descends order k es p → ⊥
   rises_along k no_entry p h f y r d = d
@@ -63,22 +56,14 @@ module _ (order : List ℕ → List ℕ → Ordering) (laws : IsKeyOrder order) 
   rises_along k (entry l u es) p h f y r (inr d) = rises_along l es p (f.0, y.0) f.2 y.2 r.1 d
 
   no_descent : (es : Entries) (p : ℕ) → FitsEntries es → EntriesTidy order es → Rising order (keys (spelled_pairs es)) → HasDescent order es p → ⊥
-  no_descent no_entry p f y r d = d
-  no_descent (entry k v es) p f y r d = rises_along k es p (f.0, y.0) f.2 y.2 r d
+  no_descent es p h1 h2 h3 h4 = grind (arith, entry, no_entry, rises_along)
 
   fixed_size : (s : Size) (n : ℕ) (r : DefectReason) → SizeIsTidy s n → SizeDefect s n r → ⊥
   fixed_size (Fixed w) n r h d = d.1 h
   fixed_size Endless n r h d = h
 
   tidy_node : (t : Tree) (p : ℕ) (r : DefectReason) → Known t → DefectAt order t p r → ⊥
-  tidy_node (ByteChunks q cs) p r k d = k.1
-  tidy_node (TextChunks q cs) p r k d = k.1
-  tidy_node (Items q s ts) p r k d = fixed_size s (count ts) r k.1.0 d.1
-  tidy_node (Pairs q s es) p r k (inl d) = fixed_size s (count_entries es) r k.1.0 d.1
-  tidy_node (Pairs q s es) p r k (inr d) = no_descent es p k.0.1 k.1.1 k.1.2 d.1
-  tidy_node (Tagged q w n t) p r k d = elim d.1 [ inl l ↦ l.1 k.1.0 | inr l ↦ k.1.2 l.2 l.1 l.3 l.4 ]
-  tidy_node (Simple q n) p r k d = d
-  tidy_node _ p r k d = d.2 k.1
+  tidy_node t p r h1 h2 = grind (arith, count, count_entries, fixed_size, inl, inr, no_descent)
 
   -- ---- a node without a defect is tidy
 

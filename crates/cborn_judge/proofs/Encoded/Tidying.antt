@@ -1,6 +1,6 @@
 -- A tidy node spells the encoding of what it means, and what spells an encoding is tidy.
-use Rattle.std.specs.Prelude.{◌≡◌, ◌+◌, ◌*◌, ◌<◌, ◌≤◌, ◌^◌, ◌∷◌, ◌++◌}
-use Rattle.cborn_judge.proofs.Common.{ℕ, ⊤, inl, inr, List, [], length, refl, sym, ap, ◌∙◌, subst, arith, true, false, Bool, append_assoc, append-nil, Ordering, AllByRecursion, cases_lt, IsPermutation-refl, IsLoose, Value, Values, Couples, no_values, value, no_pairs, pair, value_count, pair_count, big_endian, AreBytes, IsShortest, IsProper, AreProper, HasProperPairs, Width, Major, Unsigned, Negative, ByteString, TextString, Array, Map, Tag, Other, WidthFits, information, following, least, IsHead, IsLeastHead, Given, EndlessArgument, code, head, IsString, IsInteger, Det, DetValues, DetPairs, Entry, keys, joined, major_of, bignum_tag, Rising, Tree, Uint, Nint, Bytes, Text, ByteChunks, TextChunks, Items, Pairs, Tagged, Simple, Trees, no_item, more, Entries, no_entry, entry, count, count_entries, Size, Fixed, Endless, SizeFits, spelled, spelled_all, spelled_entries, Fits, FitsAll, FitsEntries, IsNumber, IsByteString, IsBignum, Means, AllMean, EntriesMean, spelled_pairs, SizeIsTidy, IsTidy, AllTidy, EntriesTidy, simple_fits, string_one, one_magnitude, large, fits_in, below_power, no_more, counted, counted_pairs, holds_below}
+use Rattle.std.specs.Prelude.{◌≡◌, ◌<◌, ◌≤◌, ◌^◌, ◌∷◌, ◌++◌}
+use Rattle.cborn_judge.proofs.Common.{ℕ, ⊤, inl, inr, List, [], length, refl, sym, ap, ◌∙◌, subst, arith, true, false, Bool, append_assoc, append-nil, Ordering, AllByRecursion, cases_lt, IsPermutation-refl, IsLoose, Value, Values, Couples, no_values, value, no_pairs, pair, value_count, pair_count, big_endian, AreBytes, IsShortest, IsProper, AreProper, HasProperPairs, Width, Major, Unsigned, Negative, ByteString, TextString, Array, Map, Tag, Other, WidthFits, information, following, least, IsLeastHead, Given, EndlessArgument, code, head, IsString, IsInteger, Det, DetValues, DetPairs, Entry, keys, joined, major_of, bignum_tag, Rising, Tree, Uint, Nint, Bytes, Text, ByteChunks, TextChunks, Items, Pairs, Tagged, Simple, Trees, no_item, more, Entries, no_entry, entry, count, count_entries, Size, Fixed, Endless, SizeFits, spelled, spelled_all, spelled_entries, Fits, FitsAll, FitsEntries, IsNumber, IsByteString, IsBignum, Means, AllMean, EntriesMean, spelled_pairs, SizeIsTidy, IsTidy, AllTidy, EntriesTidy, simple_fits, string_one, one_magnitude, large, fits_in, below_power, no_more, counted, counted_pairs, holds_below}
 use Rattle.cborn_model.proofs.Numbers.OneHead.{append_same, low_bits_below}
 use Rattle.cborn_det.proofs.Reading.{IsEntry, IsLarge, Content, Meets, seen, meets, alone}
 use Rattle.cborn_judge.proofs.Meaning.Meanings.{number_valid}
@@ -12,9 +12,7 @@ joined_spelled (entry k v es) = ap (λ l. spelled k ++ spelled v ++ l) (joined_s
 -- ---- from tidy to the encoding
 
 is_least_head : (m : Major) (w : Width) (n k : ℕ) → WidthFits w n → w ≡ least n → k ≡ n → IsLeastHead (code m) k (head m (Given w n))
-is_least_head m w n k h e i =
-    let a : IsHead (code m) (least n) n (head m (Given w n)) = subst (λ v. IsHead (code m) v n (head m (Given w n))) e (h, refl) in
-    subst (λ z. IsHead (code m) (least z) z (head m (Given w n))) (sym i) a
+is_least_head m w n k h1 h2 h3 = grind (arith, code, head, least)
 
 -- what isn't loose is a magnitude above 64 bits
 pub record Wide (b : List ℕ) : Type 0 where
@@ -22,22 +20,14 @@ pub record Wide (b : List ℕ) : Type 0 where
   pub large : 2 ^ 64 ≤ big_endian b
 
 pub not_loose : (b : List ℕ) → (IsLoose b → ⊥) → Wide b
-not_loose [] h = absurd (h tt)
-not_loose (c ∷ bs) h =
-    let s : 0 < c = elim (cases_lt 0 c) [ inl k ↦ k | inr k ↦ absurd (h (inl (omega arith))) ] in
-    let l : 8 < length (c ∷ bs) = elim (cases_lt 8 (length (c ∷ bs))) [ inl k ↦ k | inr k ↦ absurd (h (inr k)) ] in
-    record { shortest = s; large = large (c ∷ bs) s l }
+not_loose b h1 = grind (arith, cases_lt, inl, inr, large, length)
 
 module _ (order : List ℕ → List ℕ → Ordering) where
   string_det : (m : Major) (w : Width) (b : List ℕ) → WidthFits w (length b) → w ≡ least (length b) → IsString (code m) b (head m (Given w (length b)) ++ b)
   string_det m w b h e = (head m (Given w (length b)), is_least_head m w (length b) (length b) h e refl, refl)
 
   number_det : (s : Bool) (m : Major) (w : Width) (n : ℕ) (v : Value) → code m ≡ major_of s → IsNumber s n v → WidthFits w n → w ≡ least n → Det order v (head m (Given w n))
-  number_det s m w n v c h f e =
-      let l : n < 2 ^ 64 = holds_below w n f in
-      let k : IsLeastHead (code m) (big_endian h.0) (head m (Given w n)) = is_least_head m w n (big_endian h.0) f e h.3 in
-      let k' : IsLeastHead (major_of s) (big_endian h.0) (head m (Given w n)) = subst (λ j. IsLeastHead j (big_endian h.0) (head m (Given w n))) c k in
-      subst (λ z. Det order z (head m (Given w n))) (sym h.4) (inl (omega (arith, h.3), k'))
+  number_det s m w n v h1 h2 h3 h4 = grind (arith, big_endian, code, head, holds_below, inl, is_least_head, major_of)
 
   bignum_det : (s : Bool) (w : Width) (n : ℕ) (t : Tree) (v : Value) → n ≡ bignum_tag s → IsBignum s t v → WidthFits w n → w ≡ least n → Fits t → IsTidy order t → ((b : List ℕ) → IsByteString t b → IsLoose b → ⊥) → Det order v (head Tag (Given w n) ++ spelled t)
   bignum_det s w n (Bytes q u b) v i h f e g d l =
@@ -98,11 +88,7 @@ module _ (order : List ℕ → List ℕ → Ordering) where
 
   -- an indefinite length begins no encoding
   not_endless : (m : Major) (c x s : List ℕ) (v : Value) → Det order v x → head m EndlessArgument ++ c ≡ x ++ s → ⊥
-  not_endless m c x s v d e =
-      let z = alone order v x d in
-      let a : head m EndlessArgument ++ c ≡ ((32 * code z.major + information (least z.argument) z.argument) ∷ following (least z.argument) z.argument) ++ (z.content ++ s) = e ∙ ap (λ l. l ++ s) z.is ∙ append_assoc z.front z.content s ∙ ap (λ l. l ++ (z.content ++ s)) z.is_head.1 in
-      let byte : 32 * code m + 31 ≡ 32 * code z.major + information (least z.argument) z.argument = cc in
-      omega (arith, low_bits_below (least z.argument) z.argument z.is_head.0)
+  not_endless m c x s v h1 h2 = grind (arith, alone, append_assoc, code, following, head, information, least, low_bits_below)
 
   abbrev Spelt : List ℕ → List ℕ → List ℕ → List ℕ → Type 0 → Type 0
   Spelt a r x s T = (a ≡ x) × (r ≡ s) × T
@@ -128,9 +114,7 @@ module _ (order : List ℕ → List ℕ → Ordering) where
 
   -- a tidy byte string's content is what its encoding says
   content_one : (t : Tree) (b c : List ℕ) → Fits t → IsTidy order t → IsByteString t b → IsString 2 c (spelled t) → b ≡ c
-  content_one (Bytes p w d) b c f g i h = i ∙ string_one 2 d c (spelled (Bytes p w d)) (string_det order ByteString w d f.0 g) h
-  content_one (ByteChunks p cs) b c f g i h = absurd g
-  content_one _ b c f g i h = absurd i
+  content_one t b c h1 h2 h3 h4 = grind (arith, spelled, string_det, string_one)
 
   -- nor is that of a large bignum loose
   large_content : (t : Tree) (v : Value) (b : List ℕ) → Fits t → IsTidy order t → IsProper v → Det order v (spelled t) → IsLarge v → IsByteString t b → IsLoose b → ⊥
@@ -192,17 +176,10 @@ module _ (order : List ℕ → List ℕ → Ordering) where
 -- ---- what a tidy node means is proper: each length has room in a head
 
 count_fits : (s : Size) (n k : ℕ) → SizeIsTidy s n → SizeFits s n → k ≡ n → k < 2 ^ 64
-count_fits (Fixed w) n k h f e = let l : n < 2 ^ 64 = holds_below w n f in omega arith
-count_fits Endless n k h f e = absurd h
+count_fits s n k h1 h2 h3 = grind (arith, holds_below)
 
 tidy_bignum : (order : List ℕ → List ℕ → Ordering) (s : Bool) (t : Tree) (v : Value) → Fits t → IsTidy order t → IsBignum s t v → IsProper v
-tidy_bignum order s (Bytes p w c) v f y (b, h, (m, k, l, e, i)) =
-    let below : length m ≤ length b = no_more m b (subst AreBytes (sym h) f.1) l e in
-    let short : length c < 2 ^ 64 = holds_below w (length c) f.0 in
-    let same = ap length h in
-    subst IsProper (sym i) (k, l, omega arith)
-tidy_bignum order s (ByteChunks p cs) v f y b = absurd y
-tidy_bignum order s _ v f y b = absurd b.1
+tidy_bignum order s t v h1 h2 h3 = grind (arith, holds_below, length, no_more)
 
 mutual
   pub tidy_proper : (order : List ℕ → List ℕ → Ordering) (t : Tree) (v : Value) → Fits t → IsTidy order t → Means t v → IsProper v

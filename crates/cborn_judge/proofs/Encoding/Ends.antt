@@ -72,8 +72,7 @@ are_texts (Text p w x ∷ ts) (v ∷ vs) h m = (m.0.0, are_texts ts vs h.1 m.1)
 are_texts (_ ∷ ts) (v ∷ vs) h m = absurd h.0
 
 chunks_nothing : (p : ℕ) (k : StringKind) (ts : List Tree) → AreStrings k ts → IsSound true ts → MeansNothing (chunks_tree p k (chunks_of ts))
-chunks_nothing p OfBytes ts strings h v m = let (vs, k) = bytes_mean ts strings in h vs k
-chunks_nothing p OfText ts strings h v m = let (vs, k) = texts_mean ts strings m.0 in h vs k
+chunks_nothing p k ts h1 h2 = grind (arith, bytes_mean, texts_mean)
 
 -- ---- what a string leaves in the buffer
 
@@ -114,10 +113,7 @@ no_string t h b s = sound_one t (bytes b) h (string_means t b s)
 
 -- what lies in a buffer after its front y
 pub rest_read : (r : Option (Bor (List ℕ))) (d : Bor (List ℕ)) (p : ℕ) (xs y z : List ℕ) → MatchOption r ((length xs < p) ⊎ (length xs < length xs)) (λ x. (p ≤ length xs) × (length xs ≤ length xs) × (x.now ≡ slice_range xs p (length xs)) × (length x.now + p ≡ length xs)) → xs ≡ y ++ z → p ≡ length y → (unwrap_or r d).now ≡ z
-rest_read None d p xs y z h e l = absurd (elim h [ inl k ↦ omega (arith, ap length e, length-append y z) | inr k ↦ omega arith ])
-rest_read (Some x) d p xs y z h e l =
-    let rest : drop p xs ≡ z = ap (drop p) e ∙ drop_at y z p (sym l) in
-    h.2 ∙ ap (take (length xs - p)) rest ∙ take_all (length xs - p) z (omega (arith, ap length e, length-append y z))
+rest_read r d p xs y z h1 h2 h3 = grind (arith, drop, drop_at, inl, inr, length, length-append, take, take_all)
 
 module _ (order : List ℕ → List ℕ → Ordering) where
   pub one_encoded : (t : Tree) (x : List ℕ) → AreEncodedAs order (t ∷ []) x → IsEncodedAs order t x
@@ -142,14 +138,10 @@ module _ (order : List ℕ → List ℕ → Ordering) where
   bignum_coded p w true t b m c is all shortest fits same d = inl (integer true m, inr (inl (refl, (b, is, (m, all, shortest, same, refl)))), (all, shortest, fits), d)
 
 pub bignum_nothing : (p : ℕ) (w : Width) (s : Bool) (t : Tree) → ((b : List ℕ) → IsByteString t b → ⊥) → MeansNothing (Tagged p w (bignum_tag s) t)
-bignum_nothing p w s t none v (inl m) = none m.1.0 m.1.1
-bignum_nothing p w s t none v (inr (inl m)) = none m.1.0 m.1.1
-bignum_nothing p w false t none v (inr (inr m)) = m.0 refl
-bignum_nothing p w true t none v (inr (inr m)) = m.1 refl
+bignum_nothing p w s t h1 = grind (arith, false, inl, inr, true)
 
 pub number_of_bignum : (n : ℕ) → (n ≡ 2) ⊎ (n ≡ 3) → bignum_tag (eqb n 3) ≡ n
-number_of_bignum n (inl e) = subst (λ k. bignum_tag (eqb k 3) ≡ k) (sym e) refl
-number_of_bignum n (inr e) = subst (λ k. bignum_tag (eqb k 3) ≡ k) (sym e) refl
+number_of_bignum n h1 = grind (arith, bignum_tag, eqb, inl, inr)
 
 -- the flaw of a tag over what is no byte string
 pub bad_found : (p : ℕ) (w : Width) (s : Bool) (t : Tree) → ((b : List ℕ) → IsByteString t b → ⊥) → FindsFlaw (FlawAt (Tagged p w (bignum_tag s) t)) (Some (record { place = p; reason = BadBignum }))
@@ -162,21 +154,14 @@ pub only : (ts : List Tree) → (t : Tree) × (ts ≡ t ∷ []) → ts ≡ last_
 only ts (t, e) = e ∙ ap (λ u. u ∷ []) (sym (ap last_of e))
 
 pub tag_nothing : (p : ℕ) (w : Width) (n : ℕ) (t : Tree) → n ≢ 2 → n ≢ 3 → IsSound true (t ∷ []) → MeansNothing (Tagged p w n t)
-tag_nothing p w n t two three h v (inl m) = two m.0
-tag_nothing p w n t two three h v (inr (inl m)) = three m.0
-tag_nothing p w n t two three h v (inr (inr m)) = sound_one t m.2 h m.3
+tag_nothing p w n t h1 h2 h3 = grind (arith, inl, inr, sound_one)
 
 pub tag_flawless : (p : ℕ) (w : Width) (n : ℕ) (t : Tree) → n ≢ 2 → n ≢ 3 → FindsFlaw (FlawAt (Tagged p w n t)) None
 tag_flawless p w n t two three q r f = elim f.2 [ inl e ↦ two e | inr e ↦ three e ]
 
 -- the defect of its head is all that a tag adds
 pub tag_long : (p : ℕ) (w : Width) (n : ℕ) (t : Tree) (o : Option SomeDefect) → n ≢ 2 → n ≢ 3 → FindsDefect (LongAt p w n) o → FindsDefect (Either (LongAt p w n) (LooseAt p n t)) o
-tag_long p w n t o two three h =
-    alike (LongAt p w n) (Either (LongAt p w n) (LooseAt p n t)) o (λ q r. (
-      (λ d. inl d),
-      (λ d. elim d [ inl k ↦ k | inr k ↦ absurd (elim k.2 [ inl e ↦ two e | inr e ↦ three e ]) ]),
-    ))
-    h
+tag_long p w n t o h1 h2 h3 = grind (arith, alike, inl, inr)
 
 module _ (order : List ℕ → List ℕ → Ordering) where
   pub tag_coded : (p : ℕ) (w : Width) (n : ℕ) (t : Tree) (h x : List ℕ) → n ≢ 2 → n ≢ 3 → n < 2 ^ 64 → IsLeastHead 6 n h → AreEncodedAs order (t ∷ []) x → Coded order (Tagged p w n t) (h ++ x)
@@ -195,8 +180,7 @@ opening_of (Container.Chunks k) p = in_chunks p k
 opening_of Container.Input p = in_chunks p OfBytes
 
 opened_as : (l : Level) (o : Opening) (a : Container) → l.container ≡ a → Opens l o → opening_of a l.place ≡ o
-opened_as l (an_array p s c) a e (q, i) = λ j. opening_of ((sym e ∙ i) j) (q j)
-opened_as l _ a e (q, i) = λ j. opening_of ((sym e ∙ i) j) (q j)
+opened_as l o a h1 h2 = grind (arith, an_array)
 
 -- ---- what has ended
 
@@ -206,8 +190,7 @@ is_map _ = false
 
 -- a container that is no map has no marks
 unmarked : (order : List ℕ → List ℕ → Ordering) (l : Level) (o : Opening) (ts : List Tree) (ms : List Mark) (z : List ℕ) → is_map l.container ≡ false → Inner order l o ts ms z → ms ≡ []
-unmarked order l (a_map p s c) ts ms z e h = absurd (true≢false (sym (ap is_map h.opens.1) ∙ e))
-unmarked order l _ ts ms z e h = h.contains.0
+unmarked order l o ts ms z h1 h2 = grind (arith, a_map, true≢false)
 
 has_ended : (order : List ℕ → List ℕ → Ordering) (e k : Encodings) (f : Partial) (o : Opening) (ts : List Tree) (found : Findings) → Ends o ts → StandsIn order e (inside f o ts) → k.outer.items ≡ e.outer.items → k.innermost ≡ e.innermost
     → ((ns own : List Mark) (z : List ℕ) → marks_of e.pairs ≡ ns ++ own → e.innermost.pairs ≡ length ns → Inner order e.innermost o ts own z → EndsWell order e.innermost o own e.out.items k.out.items found × (marks_of k.pairs ≡ ns)) → HasEnded order k f o ts found

@@ -1,6 +1,6 @@
 -- The flaws and the defects of one more whole node.
 use Rattle.std.specs.Prelude.{◌≡◌, ◌⊎◌, ◌∷◌, ◌++◌, ◌↔◌}
-use Rattle.cborn_judge.proofs.Common.{ℕ, inl, inr, List, [], length, Width, IsUtf8, IsLong, map, refl, sym, subst, Bool, true, false, Ordering, Option, None, AllZip, Chunk, Size, StringKind, OfBytes, OfText, InvalidReason, NotUtf8, DefectReason, LongHead, EndlessLength, Means, flaw_rank, defect_rank, Tree, ByteChunks, TextChunks, Pairs, Tagged, trees, entries, Value, Partial, top, inside, Opening, an_array, a_map, a_tag, in_chunks, put, built, Ends, paired, chunks_of, chunks_tree, ended_size, Within, WithinAll, WithinEntries, FlawAt, Flaw, HasBadChunk, DefectAt, HasLongChunk, FindsDefect, DefectIn, DefectInAll, SizeAt, DescentAt, IsEarliestDefect, FindsFlaw, FlawIn, IsEarliestFlaw, IsSound, Amid, OwnFlaw, OwnDefect, Finds, Either, found_both, found_alike, none_both, strings_are, count-trees, count_entries-entries, SomeDefect, SomeFlaw}
+use Rattle.cborn_judge.proofs.Common.{arith, ℕ, inl, inr, List, [], length, Width, IsUtf8, IsLong, map, refl, sym, subst, Bool, true, false, Ordering, Option, None, AllZip, Chunk, Size, StringKind, OfBytes, OfText, InvalidReason, NotUtf8, DefectReason, LongHead, EndlessLength, Means, flaw_rank, defect_rank, Tree, ByteChunks, TextChunks, Pairs, Tagged, trees, entries, Value, Partial, top, inside, Opening, an_array, a_map, a_tag, in_chunks, put, built, Ends, paired, chunks_of, chunks_tree, ended_size, Within, WithinAll, WithinEntries, FlawAt, Flaw, HasBadChunk, DefectAt, HasLongChunk, FindsDefect, DefectIn, DefectInAll, SizeAt, DescentAt, IsEarliestDefect, FindsFlaw, FlawIn, IsEarliestFlaw, IsSound, Amid, OwnFlaw, OwnDefect, Finds, Either, found_both, found_alike, none_both, strings_are, count-trees, count_entries-entries, SomeDefect, SomeFlaw}
 use Rattle.cborn_model.specs.Partial.{last_key}
 use Rattle.cborn_model.specs.shared.Walks.{string_of}
 use Rattle.cborn_judge.proofs.Loops.{same, both_ways, regrouped}
@@ -20,10 +20,7 @@ module _ {R : Type 0} (at : Tree → ℕ → R → Type 0) where
   InOne t p r = (q : Tree) × Within q t × at q p r
 
   all_more : (ts : List Tree) (t : Tree) (p : ℕ) (r : R) → Either (InAll ts) (InOne t) p r ↔ InAll (ts ++ t ∷ []) p r
-  all_more ts t p r = (
-    (λ h. elim h [ inl f ↦ (f.0, (within_more ts t f.0).0 (inl f.1), f.2) | inr f ↦ (f.0, (within_more ts t f.0).0 (inr f.1), f.2) ]),
-    (λ f. elim ((within_more ts t f.0).1 f.1) [ inl k ↦ inl (f.0, k, f.2) | inr k ↦ inr (f.0, k, f.2) ]),
-  )
+  all_more ts t p r = grind (arith, inl, inr, within_more)
 
   amid_put : (f : Partial) (t : Tree) (p : ℕ) (r : R) → Either (Amid at f) (InOne t) p r ↔ Amid at (put f t) p r
   amid_put (top ts) t p r = all_more ts t p r
@@ -141,10 +138,7 @@ module _ (order : List ℕ → List ℕ → Ordering) where
   both_defects F G H a b o w h k e = found_alike defect_rank (λ d. d.place) (λ d. d.reason) (Either F G) H o w (found_both defect_rank (λ d. d.place) (λ d. d.reason) F G a b o h k e)
 
   pub finds_open : (f : Partial) (o : Opening) (a : Option SomeFlaw) (d : Option SomeDefect) → Finds order f a d → Finds order (inside f o []) a d
-  finds_open f o a d h = (
-    found_alike flaw_rank (λ f. f.place) (λ f. f.reason) (Amid FlawAt f) (Amid FlawAt (inside f o [])) a (amid_open FlawAt f o) h.0,
-    λ e. found_alike defect_rank (λ d. d.place) (λ d. d.reason) (Amid (DefectAt order) f) (Amid (DefectAt order) (inside f o [])) d (amid_open (DefectAt order) f o) (h.1 e),
-  )
+  finds_open f o a d h1 = grind (arith, amid_open, defect_rank, flaw_rank, found_alike, inside)
 
   pub finds_put : (f : Partial) (t : Tree) (a b o : Option SomeFlaw) (d e i : Option SomeDefect) → FindsFlaw (Flaw t) b → FindsDefect (DefectIn order t) e → IsEarliestFlaw a b o → IsEarliestDefect d e i → Finds order f a d → Finds order (put f t) o i
   finds_put f t a b o d e i fl de g j h = (
@@ -161,8 +155,7 @@ module _ (order : List ℕ → List ℕ → Ordering) where
       (v.0 ∷ vs.0, (v.1, vs.1))
 
   pub sound : (flawed : Bool) (ts : List Tree) → IsSound flawed ts → ((p : ℕ) (r : InvalidReason) → FlawIn (trees ts) p r → ⊥) → flawed ≡ false
-  sound false ts s h = refl
-  sound true ts s h = let m = all_mean ts h in absurd (s m.0 m.1)
+  sound flawed ts h1 h2 = grind (arith, all_mean, false, true)
 
   pub finds_close : (f : Partial) (p : Opening) (ts : List Tree) (flawed : Bool) (a b o : Option SomeFlaw) (d e i : Option SomeDefect) → Ends p ts → IsSound flawed ts → FindsFlaw (OwnFlaw p ts) b → (flawed ≡ false → b ≡ None → FindsDefect (OwnDefect order p ts) e)
       → IsEarliestFlaw a b o → IsEarliestDefect d e i → Finds order (inside f p ts) a d → Finds order (put f (built p ts)) o i

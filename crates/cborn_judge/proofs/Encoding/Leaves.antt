@@ -1,6 +1,6 @@
 -- Items without children, and strings.
 use Rattle.std.specs.Prelude.{◌≡◌, ◌<◌, ◌^◌, ◌++◌, ◌↔◌, ◌+◌, ◌∷◌}
-use Rattle.cborn_judge.proofs.Common.{ℕ, inl, inr, List, append_assoc, length, refl, sym, ap, ◌∙◌, subst, true, false, true≢false, Bool, not, Ordering, IsTrue, Width, StringKind, OfBytes, OfText, AreBytes, place, bytes, text, Partial, top, inside, in_chunks, string_tree, TakesItem, TakesString, Mark, IsEncodedAs, Coded, Stands, is_chunks, are_chunks, kept, IsContent, IsChunk, IsChunkContent, IsStringFront, StandsAs, Written, Encodings, OpenString, Level, bytes-append, Option, None, IsUtf8, InvalidReason, NotUtf8, WidthFits, IsLeastHead, is_simple_value, Tree, Text, Simple, IsNumber, integer, simple, put, integer_tree, defect_rank, flaw_rank, major_of, FlawAt, Flaw, DefectAt, FindsDefect, LongAt, DefectIn, IsEarliestDefect, FindsFlaw, IsEarliestFlaw, Finds, found_alike, magnitude_of, SomeDefect, SomeFlaw, [], IsUtf8-nil, code, head_bytes, least, Uint, Nint, Bytes, IsShortLeaf, AreShortIntegers, text_in, puts, AreEncodedAs, kind_major, simple_fits, holds_below}
+use Rattle.cborn_judge.proofs.Common.{arith, ℕ, inl, inr, List, append_assoc, length, refl, sym, ap, ◌∙◌, subst, true, false, true≢false, Bool, not, Ordering, IsTrue, Width, StringKind, OfBytes, OfText, AreBytes, place, bytes, text, Partial, top, inside, in_chunks, string_tree, TakesItem, TakesString, Mark, IsEncodedAs, Coded, Stands, is_chunks, are_chunks, kept, IsContent, IsChunk, IsChunkContent, IsStringFront, StandsAs, Written, Encodings, OpenString, Level, bytes-append, Option, None, IsUtf8, InvalidReason, NotUtf8, WidthFits, IsLeastHead, is_simple_value, Tree, Text, Simple, IsNumber, integer, simple, put, integer_tree, defect_rank, flaw_rank, major_of, FlawAt, Flaw, DefectAt, FindsDefect, LongAt, DefectIn, IsEarliestDefect, FindsFlaw, IsEarliestFlaw, Finds, found_alike, magnitude_of, SomeDefect, SomeFlaw, [], IsUtf8-nil, code, head_bytes, least, Uint, Nint, Bytes, IsShortLeaf, AreShortIntegers, text_in, puts, AreEncodedAs, kind_major, simple_fits, holds_below}
 use Rattle.cborn_model.specs.shared.Runs.{IsInteger}
 use Rattle.cborn_judge.proofs.Encoding.Finding.{finds_put}
 use Rattle.cborn_judge.proofs.Encoding.PairsHinted.{none_first}
@@ -16,8 +16,7 @@ string_place p OfText w x = refl
 
 module _ (order : List ℕ → List ℕ → Ordering) where
   pub no_chunks : (outer : List Level) (l : Level) (f : Partial) (ms : List Mark) (y : List ℕ) → Stands order outer l f ms y → is_chunks l ≡ false → TakesItem f
-  no_chunks outer l (inside f (in_chunks p k) ts) ms y s e = let h : true ≡ false = sym (ap are_chunks s.12.opens.1) ∙ e in cc
-  no_chunks outer l _ ms y s e = tt
+  no_chunks outer l f ms y h1 h2 = grind (arith, are_chunks, false, in_chunks, inside, true)
 
   -- with the next bytes of its content
   pub written_more : (e n : Encodings) (s : OpenString) (f : Partial) (y h x b : List ℕ) → Written order e s f y h x → n.out.items ≡ e.out.items ++ b → n.innermost ≡ e.innermost → StandsAs order n f y → AreBytes b → Written order n s f y h (x ++ b)
@@ -41,25 +40,19 @@ module _ (order : List ℕ → List ℕ → Ordering) where
   string_coded p OfText w n h x false front len short are is = inr (refl, λ v m. true≢false (sym (is.1 m.0)))
 
   chunk_content : (k : StringKind) (good : Bool) (x : List ℕ) → IsTrue good ↔ IsContent k x → IsChunkContent (not good) k x (kept good x)
-  chunk_content k true x is = (is.0 refl, refl)
-  chunk_content k false x is = ((λ c. true≢false (sym (is.1 c))), refl)
+  chunk_content k good x h1 = grind (arith, false, true, true≢false)
 
   pub chunk_there : (outer : List Level) (l : Level) (f : Partial) (ms : List Mark) (y : List ℕ) (p : ℕ) (k : StringKind) (w : Width) (x : List ℕ) (good : Bool) → Stands order outer l f ms y → is_chunks l ≡ true → TakesString f k → IsTrue good ↔ IsContent k x
       → IsChunk f (string_tree p k w x) (not good) (kept good x)
-  chunk_there outer l (top ts) ms y p k w x good s e takes is = let h : false ≡ true = sym (ap are_chunks s.2) ∙ e in cc
-  chunk_there outer l (inside f (in_chunks q j) ts) ms y p k w x good s e takes is =
-      subst (λ i. IsChunk (inside f (in_chunks q i) ts) (string_tree p k w x) (not good) (kept good x)) (sym takes) (p, w, x, refl, chunk_content k good x is)
-  chunk_there outer l (inside f o ts) ms y p k w x good s e takes is = let h : false ≡ true = sym (ap are_chunks s.12.opens.1) ∙ e in cc
+  chunk_there outer l f ms y p k w x good h1 h2 h3 h4 = grind (arith, are_chunks, chunk_content, false, in_chunks, inside, kept, not, string_tree, top, true)
 
 -- ---- integers, simple values and strings in what an encoder holds
 
 pub integer_place : (p : ℕ) (s : Bool) (w : Width) (n : ℕ) → place (integer_tree p s w n) ≡ p
-integer_place p false w n = refl
-integer_place p true w n = refl
+integer_place p s w n = grind (arith, false, true)
 
 pub sound_integer : (p : ℕ) (s : Bool) (w : Width) (n q : ℕ) (r : InvalidReason) → Flaw (integer_tree p s w n) q r → ⊥
-sound_integer p false w n q r f = subst (λ z. FlawAt z q r) f.1 f.2
-sound_integer p true w n q r f = subst (λ z. FlawAt z q r) f.1 f.2
+sound_integer p s w n q r h1 = grind (arith, false, true)
 
 module _ (order : List ℕ → List ℕ → Ordering) where
   pub integer_encoded : (p : ℕ) (s : Bool) (w : Width) (n : ℕ) (x : List ℕ) → WidthFits w n → IsLeastHead (major_of s) n x → IsEncodedAs order (integer_tree p s w n) x
@@ -75,8 +68,7 @@ module _ (order : List ℕ → List ℕ → Ordering) where
       (integer true m.0, number, number_valid true n (integer true m.0) number below, inl (subst (λ k. k < 2 ^ 64) (sym m.3) below, subst (λ k. IsLeastHead 1 k x) (sym m.3) h))
 
   pub integer_defect : (p : ℕ) (s : Bool) (w : Width) (n : ℕ) (o : Option SomeDefect) → FindsDefect (LongAt p w n) o → FindsDefect (DefectIn order (integer_tree p s w n)) o
-  integer_defect p false w n o h = leaf_found order (Uint p w n) o (λ q. same) h
-  integer_defect p true w n o h = leaf_found order (Nint p w n) o (λ q. same) h
+  integer_defect p s w n o h1 = grind (arith, false, leaf_found, same, true)
 
   pub finds_integer : (f : Partial) (p : ℕ) (s : Bool) (w : Width) (n : ℕ) (a : Option SomeFlaw) (d e i : Option SomeDefect) → FindsDefect (LongAt p w n) e → IsEarliestDefect d e i → Finds order f a d → Finds order (put f (integer_tree p s w n)) a i
   finds_integer f p s w n a d e i h k g = finds_put order f (integer_tree p s w n) a None a d e i (sound_integer p s w n) (integer_defect p s w n e h) (none_first (λ f. (f.place, flaw_rank f.reason)) a) k g
@@ -107,8 +99,7 @@ module _ (order : List ℕ → List ℕ → Ordering) where
       not_good true i n = absurd (n (i.0 refl))
 
   pub string_defect : (p : ℕ) (k : StringKind) (w : Width) (x : List ℕ) (o : Option SomeDefect) → FindsDefect (LongAt p w (length x)) o → FindsDefect (DefectIn order (string_tree p k w x)) o
-  string_defect p OfBytes w x o h = leaf_found order (Bytes p w x) o (λ q. same) h
-  string_defect p OfText w x o h = leaf_found order (Text p w x) o (λ q. same) h
+  string_defect p k w x o h1 = grind (arith, leaf_found, same)
 
   pub finds_string : (f : Partial) (p : ℕ) (k : StringKind) (w : Width) (n : ℕ) (x : List ℕ) (good : Bool) (a b o : Option SomeFlaw) (d e i : Option SomeDefect) → length x ≡ n → IsTrue good ↔ IsContent k x
       → FindsFlaw (λ q r. (q ≡ p) × (r ≡ NotUtf8) × (good ≡ false)) b → FindsDefect (LongAt p w n) e → IsEarliestFlaw a b o → IsEarliestDefect d e i → Finds order f a d → Finds order (put f (string_tree p k w x)) o i
@@ -131,8 +122,7 @@ module _ (order : List ℕ → List ℕ → Ordering) where
   IsFine t x = IsEncodedAs order t x × FindsFlaw (Flaw t) None × FindsDefect (DefectIn order t) None
 
   short_integer : (p : ℕ) (s : Bool) (w : Width) (n : ℕ) (x : List ℕ) → WidthFits w n → w ≡ least n → head_bytes (major_of s) w n ≡ x → IsFine (integer_tree p s w n) x
-  short_integer p s w n x fits short e =
-      (integer_encoded order p s w n x fits (least_head (major_of s) w n x fits short e), sound_integer p s w n, integer_defect order p s w n None (λ q r d. d.2 short))
+  short_integer p s w n x h1 h2 h3 = grind (arith, integer_defect, integer_encoded, least_head, major_of, sound_integer)
 
   short_string : (p : ℕ) (k : StringKind) (w : Width) (b x : List ℕ) → WidthFits w (length b) → AreBytes b → w ≡ least (length b) → head_bytes (code (kind_major k)) w (length b) ++ b ≡ x → IsContent k b → IsFine (string_tree p k w b) x
   short_string p k w b x fits are short e content =

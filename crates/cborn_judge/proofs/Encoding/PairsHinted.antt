@@ -1,6 +1,6 @@
 -- What is found by a loop over marks that looks at the hints for the keys first.
-use Rattle.std.specs.Prelude.{◌≡◌, ◌+◌, ◌-◌, ◌<◌, ◌≤◌, ◌⊎◌, ◌||◌, ◌∷◌, ◌++◌, ◌==◌, ◌*◌, ◌/◌, ◌^◌}
-use Rattle.cborn_judge.proofs.Common.{ℕ, suc, inl, inr, List, [], length, get_or, set, nat_lt, add-one, map, take, refl, sym, ap, ◌∙◌, subst, arith, true, false, true≢false, Option, None, Some, Ordering, Less, AllByRecursion, take-set, take_more_set, get_or-set_same, length-set, ltb-true, map-set_same, AreBytes, IsEarliest, defect_rank, KeyOrder, FindsDefect, Tells, Mark, key_of, all_keyed, IsFall, last_filled, FallAt, FallsIn, Met, AreHinted, AreHintedBy, is_above, Bool, is_lt, ⊤, drop, IsPermutation, IsKeyOrder, All_moved, All-same, All-append, All-take, All-drop, All-from_recursion, recursion_from_All, All-from_get_or, get_or-take, get_or-drop, length-take, zero, pow-suc, mul-le-mul_right, Equal, IfSome, nat_cmp_is, nat_cmp, ordering_then, cases_lt, le-ltb, bytewise, length_first, order_of, front_of, length_hint, hint_of, lt-ltb}
+use Rattle.std.specs.Prelude.{◌≡◌, ◌+◌, ◌-◌, ◌<◌, ◌≤◌, ◌⊎◌, ◌∷◌, ◌++◌, ◌==◌, ◌*◌, ◌/◌, ◌^◌}
+use Rattle.cborn_judge.proofs.Common.{ℕ, suc, inl, inr, List, [], length, get_or, set, nat_lt, add-one, map, take, refl, sym, ap, ◌∙◌, subst, arith, true, false, true≢false, Option, None, Some, Ordering, Less, AllByRecursion, take-set, take_more_set, get_or-set_same, length-set, ltb-true, map-set_same, AreBytes, IsEarliest, defect_rank, KeyOrder, FindsDefect, Tells, Mark, key_of, all_keyed, IsFall, last_filled, FallAt, FallsIn, Met, AreHinted, AreHintedBy, is_above, is_lt, ⊤, drop, IsPermutation, IsKeyOrder, All_moved, All-same, All-append, All-take, All-drop, All-from_recursion, recursion_from_All, All-from_get_or, get_or-take, get_or-drop, length-take, zero, pow-suc, mul-le-mul_right, Equal, IfSome, nat_cmp_is, nat_cmp, ordering_then, cases_lt, le-ltb, bytewise, length_first, order_of, front_of, length_hint, hint_of, lt-ltb}
 use Rattle.cborn_judge.specs.declared.defects.Defect.{Defect}
 use Rattle.cborn_model.specs.declared.orders.KnownOrder.{KnownOrder}
 use Rattle.cborn_model.specs.declared.orders.KnownOrder.TheVariants as known
@@ -54,12 +54,10 @@ module _ {S : Type 0} (seen : S → Mark) (hinted : S → ℕ) (b : List ℕ) wh
     Remembers before key last next after = ((length key == 0 ≡ false) × (next ≡ key) × (after ≡ hint key)) ⊎ ((length key == 0 ≡ true) × (next ≡ before) × (after ≡ last))
 
     next_filled : (before key : List ℕ) → length key == 0 ≡ false → last_filled before key ≡ key
-    next_filled before [] e = absurd (true≢false e)
-    next_filled before (c ∷ cs) e = refl
+    next_filled before key h1 = grind (arith, true≢false)
 
     remembers : (before key : List ℕ) (last : ℕ) (next : List ℕ) (after : ℕ) → last ≡ hint before → Remembers before key last next after → (next ≡ last_filled before key) × (after ≡ hint next)
-    remembers before key last next after h (inl r) = (r.1 ∙ sym (next_filled before key r.0), r.2 ∙ ap hint (sym r.1))
-    remembers before key last next after h (inr r) = (r.1 ∙ sym (ap (last_filled before) (empty key r.0)), r.2 ∙ h ∙ ap hint (sym r.1))
+    remembers before key last next after h1 h2 = grind (arith, empty, inl, inr, last_filled, next_filled)
 
     no_fall : Tells order hint → (before key : List ℕ) (place : ℕ) → AreBytes before → AreBytes key → hint before < hint key → FindsDefect (FallAt order before key place) None
     no_fall tells before key place h i l p r f = f.1.3 (tells before key h i l)
@@ -99,9 +97,7 @@ module _ {S : Type 0} (seen : S → Mark) (hinted : S → ℕ) (b : List ℕ) wh
     AreAbove k (s ∷ ss) = (order k (key_of b (seen s)) ≡ Less) × AreAbove (key_of b (seen s)) ss
 
     low_next : (k key : List ℕ) → (k ≡ []) ⊎ (order k key ≡ Less) → (last_filled k key ≡ []) ⊎ ((last_filled k key ≡ key) ⊎ (order (last_filled k key) key ≡ Less))
-    low_next k [] (inl e) = inl e
-    low_next k [] (inr l) = inr (inr l)
-    low_next k (c ∷ cs) low = inr (inl refl)
+    low_next k key h1 = grind (arith, inl, inr)
 
     none_met : IsKeyOrder order → (k before : List ℕ) (ss : List S) (p : ℕ) → (k ≡ []) ⊎ ((k ≡ before) ⊎ (order k before ≡ Less)) → AreAbove before ss → Met (IsFall order) last_filled k (all_keyed b (map seen ss)) p → ⊥
     none_met laws k before [] p low h m = m
@@ -117,15 +113,10 @@ module _ {S : Type 0} (seen : S → Mark) (hinted : S → ℕ) (b : List ℕ) wh
         ]
 
     less_is : (o : Ordering) → true ≡ is_lt o → o ≡ Less
-    less_is Less e = refl
-    less_is _ e = absurd (true≢false e)
+    less_is o h1 = grind (arith, true≢false)
 
     above_by : Tells order hint → AreBytes b → (s t : S) → hinted s ≡ hint (key_of b (seen s)) → hinted t ≡ hint (key_of b (seen t)) → true ≡ is_above hinted seen order b s t → order (key_of b (seen s)) (key_of b (seen t)) ≡ Less
-    above_by tells bytes s t h i e = go (nat_lt (hinted s) (hinted t)) refl
-      where
-        go : (v : Bool) → nat_lt (hinted s) (hinted t) ≡ v → order (key_of b (seen s)) (key_of b (seen t)) ≡ Less
-        go true l = let m = ltb-true (hinted s) (hinted t) l in tells _ _ (bytes_between b (seen s).1 (seen s).2 bytes) (bytes_between b (seen t).1 (seen t).2 bytes) (omega (arith, h, i, m))
-        go false l = less_is (order (key_of b (seen s)) (key_of b (seen t))) (e ∙ ap (λ v. v || is_lt (order (key_of b (seen s)) (key_of b (seen t)))) l)
+    above_by h1 h2 s t h3 h4 h5 = grind (arith, bytes_between, false, is_lt, key_of, less_is, ltb-true, nat_lt, true)
 
     above_from : Tells order hint → AreBytes b → (s : S) (ss : List S) → AreHintedBy hinted seen hint b (s ∷ ss)
         → ((k : ℕ) (d : S) → k + 1 < length (s ∷ ss) → true ≡ is_above hinted seen order b (get_or (s ∷ ss) k d) (get_or (s ∷ ss) (k + 1) d)) → AreAbove (key_of b (seen s)) ss

@@ -1,6 +1,6 @@
 -- What a loop over keys that follow one another finds.
 use Rattle.std.specs.Prelude.{◌≡◌, ◌+◌, ◌<◌, ◌⊎◌, ◌∷◌, ◌++◌, ◌↔◌}
-use Rattle.cborn_judge.proofs.Common.{ℕ, inl, inr, List, [], length, get_or, map, take, refl, sym, ap, ◌∙◌, subst, true, false, true≢false, Option, None, Some, Ordering, Less, is_some, map-append, Rising, IsEarliest, FindsDefect, KeyOrder, Row, Mark, AreFilled, IsSameKey, HasSameKeys, filled_keys, Falls, HasFall, RowDescent, FindsDescent, key_of, row_of, Keyed, keyed, all_keyed, Met, remembered, IsFall, last_filled, FallsIn, IsTie, last_key, IsIn, Either, found_both, found_alike}
+use Rattle.cborn_judge.proofs.Common.{arith, ℕ, inl, inr, List, [], length, get_or, map, take, refl, sym, ap, ◌∙◌, subst, true, false, true≢false, Option, None, Ordering, Less, is_some, map-append, Rising, IsEarliest, FindsDefect, KeyOrder, Row, Mark, AreFilled, IsSameKey, HasSameKeys, filled_keys, Falls, HasFall, RowDescent, FindsDescent, key_of, row_of, Keyed, keyed, all_keyed, Met, remembered, IsFall, last_filled, FallsIn, IsTie, last_key, IsIn, Either, found_both, found_alike}
 use Rattle.cborn_model.specs.Earliest.{Finds}
 use Rattle.cborn_judge.specs.declared.defects.Defect.{Defect}
 use Rattle.cborn_judge.proofs.SameKeys.{IsAgain, IsTied}
@@ -9,8 +9,7 @@ use Rattle.cborn_judge.proofs.FirstDefect.{alike}
 use Rattle.cborn_judge.proofs.Encoding.PairsRead.{is_filled, filled, not_empty, marked_read}
 
 pub none_of : {X : Type 0} (o : Option X) → is_some o ≡ false → o ≡ None
-none_of None e = refl
-none_of (Some x) e = absurd (true≢false e)
+none_of o h1 = grind (arith, true≢false)
 
 -- ---- one key more
 
@@ -95,13 +94,7 @@ module _ (order : List ℕ → List ℕ → Ordering) where
   falls_after k ((q, c ∷ cs, v) ∷ rows) p n f = both_ways ((λ i. (i.2, i.3)), (λ i. (n, (λ e. cc), i.0, i.1))) (falls_after (c ∷ cs) rows p (λ e. cc) f.1)
 
   falls_all : (rows : List Row) (p : ℕ) → AreFilled rows → MetFalls [] rows p ↔ HasFall order rows p
-  falls_all [] p f = same
-  falls_all ((q, [], v) ∷ rows) p f = absurd (f.0.0 refl)
-  falls_all ((q, c ∷ cs, v) ∷ rows) p f =
-      let rest = falls_after (c ∷ cs) rows p (λ e. cc) f.1 in (
-        (λ h. elim h [ inl i ↦ absurd (i.0 refl) | inr i ↦ rest.0 i ]),
-        (λ h. inr (rest.1 h)),
-      )
+  falls_all rows p h1 = grind (arith, falls_after, inl, inr, same)
 
   falls_met : (b : List ℕ) (ms : List Mark) (rows : List Row) (p : ℕ) → map (row_of b) ms ≡ rows → AreFilled rows → Met (IsFall order) last_filled [] (all_keyed b ms) p ↔ HasFall order rows p
   falls_met b ms rows p e f = subst (λ z. Met (IsFall order) last_filled [] z p ↔ HasFall order rows p) (sym (keyed_rows b ms ∙ ap (map row_keyed) e)) (falls_all rows p f)

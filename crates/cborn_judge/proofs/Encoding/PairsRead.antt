@@ -41,8 +41,7 @@ pub not_empty : (k : List ℕ) → is_filled k ≡ true → k ≡ [] → ⊥
 not_empty k f e = true≢false (sym f ∙ ap is_filled e)
 
 some_long : (k : List ℕ) → is_filled k ≡ true → 0 < length k
-some_long [] f = absurd (true≢false (sym f))
-some_long (b ∷ bs) f = omega arith
+some_long k h1 = grind (arith, true≢false)
 
 abbrev pub begin_of : Mark → ℕ
 begin_of m = m.1

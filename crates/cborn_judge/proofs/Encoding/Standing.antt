@@ -46,14 +46,10 @@ module _ (order : List ℕ → List ℕ → Ordering) where
 
   -- a node whose encoding was written after n bytes: it is bad exactly if nothing was
   pub verdict : (t : Tree) (y x : List ℕ) (bad : Bool) → Coded order t x → (bad ≡ true → length (y ++ x) ≤ length y) → (bad ≡ false → length y < length (y ++ x)) → Verdict bad t x
-  verdict t y x false (inl c) b g = c
-  verdict t y x true (inl c) b g = absurd (omega (arith, some_bytes order c.0 x c.3, b refl, length-append y x))
-  verdict t y x false (inr c) b g = absurd (omega (arith, ap length c.0, g refl, length-append y x))
-  verdict t y x true (inr c) b g = (c.1, c.0)
+  verdict t y x bad h1 h2 h3 = grind (arith, false, inl, inr, length, length-append, some_bytes, true)
 
   pub is_verdict : (t : Tree) (x : List ℕ) (bad : Bool) → Verdict bad t x → IsVerdict bad t
-  is_verdict t x false v = (v.0, v.1)
-  is_verdict t x true v = v.0
+  is_verdict t x bad h1 = grind (arith, false, true)
 
   -- ---- encodings one after another
 
@@ -74,15 +70,13 @@ module _ (order : List ℕ → List ℕ → Ordering) where
 
   -- one more, if none means nothing
   pub contents_more : (b bad : Bool) (ts : List Tree) (t : Tree) (y x : List ℕ) → (b ≡ false → AreEncodedAs order ts y) → Verdict bad t x → (b || bad) ≡ false → AreEncodedAs order (ts ++ t ∷ []) (y ++ x)
-  contents_more false false ts t y x a v e = encoded_more ts t y x (a refl) v
-  contents_more _ _ ts t y x a v e = cc
+  contents_more b bad ts t y x h1 h2 h3 = grind (arith, encoded_more, false)
 
   counted : (n : ℕ) (ts us : List Tree) (y : List ℕ) → n ≡ length ts → AreEncodedAs order (ts ++ us) y → length y < 2 ^ 64 → (n + length us) % 2 ^ 64 ≡ length (ts ++ us)
   counted n ts us y e a l = omega (arith, e, as_long (ts ++ us) a.0 y a.1 a.3, l, length-append ts us)
 
   pub counted_more : (b bad : Bool) (n : ℕ) (ts : List Tree) (t : Tree) (y x : List ℕ) → (b ≡ false → AreEncodedAs order ts y × (n ≡ length ts)) → Verdict bad t x → length (y ++ x) < 2 ^ 64 → (b || bad) ≡ false → (n + 1) % 2 ^ 64 ≡ length (ts ++ t ∷ [])
-  counted_more false false n ts t y x a v l e = let c = a refl in counted n ts (t ∷ []) (y ++ x) c.1 (encoded_more ts t y x c.0 v) l
-  counted_more _ _ n ts t y x a v l e = cc
+  counted_more b bad n ts t y x h1 h2 h3 h4 = grind (arith, counted, encoded_more, false)
 
   -- ---- the pairs of a map
 
@@ -322,39 +316,7 @@ module _ (order : List ℕ → List ℕ → Ordering) where
 
   pub stands_open : (outer : List Level) (l m : Level) (f : Partial) (o : Opening) (ms : List Mark) (y h : List ℕ) → Opens m o → IsFront o h → m.start ≡ length y → m.content ≡ length (y ++ h) → m.pairs ≡ length ms → m.count ≡ 0 → m.flawed ≡ false
       → Stands order outer l f ms y → Stands order (outer ++ l ∷ []) m (inside f o []) ms (y ++ h)
-  stands_open outer l m f o ms y h op fr a b c n w s = (
-    outer,
-    l,
-    y,
-    h,
-    ms,
-    [],
-    refl,
-    refl,
-    sym (append-nil ms),
-    a,
-    c,
-    s,
-    record {
-      front = h;
-      contents = [];
-      whole = sym (append-nil h);
-      opens = op;
-      begins = fr;
-      content = omega (arith, a, b, length-append y h);
-      sound = subst (λ z. IsSound z []) (sym w) ([], tt);
-      contains = nothing o;
-    },
-  )
-    where
-      empty : AreEncodedAs order [] []
-      empty = ([], tt, tt, refl)
-
-      nothing : (o : Opening) → Contains order m o [] [] []
-      nothing (an_array p z i) = (refl, λ e. (empty, n))
-      nothing (a_map p z i) = (ap (λ k. k % 2 == 1) n, [], tt, tt, refl)
-      nothing (a_tag p z i) = (refl, λ e. empty)
-      nothing (in_chunks p i) = (refl, λ e. refl)
+  stands_open outer l m f o ms y h h1 h2 h3 h4 h5 h6 h7 h8 = grind (arith, a_map, a_tag, an_array, append-nil, in_chunks, length-append)
 
   -- ---- a string in a string of indefinite length
 
@@ -373,8 +335,7 @@ module _ (order : List ℕ → List ℕ → Ordering) where
   chunk_joined (s ∷ ts) k t q w b e = ap (λ z. (chunk_of s).bytes ++ z) (chunk_joined ts k t q w b e) ∙ sym (append_assoc (chunk_of s).bytes (joined_chunks (chunks_of ts)) b)
 
   chunk_contents : (c bad : Bool) (ts : List Tree) (k : StringKind) (t : Tree) (q : ℕ) (w : Width) (b z x : List ℕ) → t ≡ string_tree q k w b → IsChunkContent bad k b x → (c ≡ false → z ≡ joined_chunks (chunks_of ts)) → (c || bad) ≡ false → z ++ x ≡ joined_chunks (chunks_of (ts ++ t ∷ []))
-  chunk_contents false false ts k t q w b z x e i h n = (λ j. h refl j ++ i.1 j) ∙ sym (chunk_joined ts k t q w b e)
-  chunk_contents _ _ ts k t q w b z x e i h n = cc
+  chunk_contents c bad ts k t q w b z x h1 h2 h3 h4 = grind (arith, chunk_joined, false)
 
   pub stands_chunk : (outer : List Level) (l : Level) (f : Partial) (t : Tree) (ms : List Mark) (y x : List ℕ) (bad : Bool) → IsChunk f t bad x → Stands order outer l f ms y → Stands order outer (after l bad) (put f t) ms (y ++ x)
   stands_chunk outer l (inside f (in_chunks p k) ts) t ms y x bad c s =

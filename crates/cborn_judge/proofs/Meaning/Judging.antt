@@ -1,6 +1,6 @@
 -- A node has no flaw exactly if it means an item.
 use Rattle.std.specs.Prelude.{◌≡◌, ◌≢◌, ◌⊎◌, ◌∷◌}
-use Rattle.cborn_judge.proofs.Common.{ℕ, inl, inr, List, [], refl, sym, subst, true, false, Bool, IsUtf8, IsUtf8-from_is_utf8, is_utf8-from_IsUtf8, cases_eq, Within, WithinAll, WithinEntries, IsRepeated, HasRepeat, HasBadChunk, FlawAt, Flaw, InvalidReason, NotUtf8, BadBignum, DuplicateKey, Value, Values, Couples, integer, bytes, text, array, dict, tagged, simple, no_values, value, no_pairs, pair, Same, big_endian, IsNew, HasNewKeys, Width, Chunk, Tree, Uint, Nint, Bytes, Text, ByteChunks, TextChunks, Items, Pairs, Tagged, Simple, Trees, no_item, more, Entries, no_entry, entry, place, joined_chunks, IsNumber, IsByteString, ChunksAreText, Means, AllMean, EntriesMean, is_utf8, magnitude_of}
+use Rattle.cborn_judge.proofs.Common.{arith, ℕ, inl, inr, List, [], refl, sym, subst, true, false, Bool, IsUtf8, IsUtf8-from_is_utf8, is_utf8-from_IsUtf8, cases_eq, Within, WithinAll, WithinEntries, IsRepeated, HasRepeat, HasBadChunk, FlawAt, Flaw, InvalidReason, NotUtf8, BadBignum, DuplicateKey, Value, Values, Couples, integer, bytes, text, array, dict, tagged, simple, no_values, value, no_pairs, pair, Same, big_endian, IsNew, HasNewKeys, Width, Chunk, Tree, Uint, Nint, Bytes, Text, ByteChunks, TextChunks, Items, Pairs, Tagged, Simple, Trees, no_item, more, Entries, no_entry, entry, place, joined_chunks, IsNumber, IsByteString, ChunksAreText, Means, AllMean, EntriesMean, is_utf8, magnitude_of}
 use Rattle.cborn_judge.proofs.Meaning.Meanings.{means_once}
 
 -- ---- what means an item has no flaw
@@ -27,13 +27,7 @@ no_bad_chunk (c ∷ cs) p u (inr h) = no_bad_chunk cs p u.1 h
 
 -- what means an item has nothing wrong with itself
 pub sound_node : (t : Tree) (v : Value) (p : ℕ) (r : InvalidReason) → Means t v → FlawAt t p r → ⊥
-sound_node (Text q w b) v p r m f = f.2 m.0
-sound_node (TextChunks q cs) v p r m f = no_bad_chunk cs p m.0 f.1
-sound_node (Tagged q w n t) v p r (inl m) f = f.3 m.1.0 m.1.1
-sound_node (Tagged q w n t) v p r (inr (inl m)) f = f.3 m.1.0 m.1.1
-sound_node (Tagged q w n t) v p r (inr (inr m)) f = elim f.2 [ inl e ↦ m.0 e | inr e ↦ m.1 e ]
-sound_node (Pairs q s es) v p r m f = no_repeat es m.0 p m.1 m.2 f.1
-sound_node _ v p r m f = f
+sound_node t v p r h1 h2 = grind (arith, inl, inr, no_bad_chunk, no_repeat)
 
 -- a node within one that means an item means an item too
 mutual
@@ -73,10 +67,7 @@ sound_all ts vs m q i p r f = let u = inner_all q ts vs m i in sound_node q u.0 
 -- ---- what has no flaw means an item
 
 pub within_itself : (t : Tree) → Within t t
-within_itself (Items p s ts) = inl refl
-within_itself (Pairs p s es) = inl refl
-within_itself (Tagged p w n t) = inl refl
-within_itself _ = refl
+within_itself t = grind (arith, inl)
 
 utf8_or_not : (b : List ℕ) → IsUtf8 b ⊎ (IsUtf8 b → ⊥)
 utf8_or_not b = by (is_utf8 b) refl

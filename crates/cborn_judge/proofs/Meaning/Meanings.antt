@@ -1,6 +1,6 @@
 -- What a node means: that it is one item at most, and building it.
 use Rattle.std.specs.Prelude.{◌≡◌, ◌<◌, ◌≤◌, ◌^◌, ◌∷◌, ◌++◌}
-use Rattle.cborn_judge.proofs.Common.{ℕ, suc, inl, inr, List, [], length, refl, sym, ap, ◌∙◌, subst, arith, true, false, Bool, length-append, cond, lt-ltb, ltb, IsUtf8, cases_lt, IsUtf8-append, IsUtf8-nil, Value, Values, Couples, integer, bytes, text, array, dict, tagged, simple, no_values, value, no_pairs, pair, big_endian, AreBytes, IsShortest, IsProper, AreProper, HasProperPairs, value_depth, values_depth, pairs_depth, ByteString, TextString, Array, Map, Tag, Given, EndlessArgument, head, argument, Chunk, Tree, Uint, Nint, Bytes, Text, ByteChunks, TextChunks, Items, Pairs, Tagged, Simple, Trees, no_item, more, Entries, no_entry, entry, count, count_entries, depth, depth_all, depth_entries, Endless, ending, chunk_bytes, spelled, spelled_all, spelled_entries, Fits, FitsAll, FitsEntries, Within, WithinAll, WithinEntries, IsWord, joined_chunks, IsNumber, IsByteString, IsBignum, ChunksAreText, Means, AllMean, EntriesMean, one_magnitude, large, length_of_chunks, no_more, counted, counted_pairs, flat_map, map, take, AllZip, take_all, item_value, pair_value, trees, entries, values_of, pairs_of, Size, IsItemOf, IsPairOf, holds_below, joined_bytes}
+use Rattle.cborn_judge.proofs.Common.{ℕ, suc, inl, inr, List, [], length, refl, sym, ap, ◌∙◌, subst, arith, true, false, Bool, length-append, cond, lt-ltb, ltb, IsUtf8, cases_lt, IsUtf8-append, IsUtf8-nil, Value, Values, Couples, integer, bytes, text, array, dict, tagged, simple, no_values, value, no_pairs, pair, big_endian, AreBytes, IsShortest, IsProper, AreProper, HasProperPairs, value_depth, values_depth, pairs_depth, TextString, Array, Map, Tag, Given, EndlessArgument, head, argument, Chunk, Tree, Uint, Nint, Bytes, Text, ByteChunks, TextChunks, Items, Pairs, Tagged, Simple, Trees, no_item, more, Entries, no_entry, entry, count, count_entries, depth, depth_all, depth_entries, Endless, ending, chunk_bytes, spelled, spelled_all, spelled_entries, Fits, FitsAll, FitsEntries, Within, WithinAll, WithinEntries, IsWord, joined_chunks, IsNumber, IsByteString, IsBignum, ChunksAreText, Means, AllMean, EntriesMean, one_magnitude, large, length_of_chunks, no_more, counted, counted_pairs, flat_map, map, take, AllZip, take_all, item_value, pair_value, trees, entries, values_of, pairs_of, Size, IsItemOf, IsPairOf, holds_below, joined_bytes}
 use Rattle.cborn_model.proofs.Lengths.{some_bytes}
 use Rattle.cborn_model.specs.declared.items.Item.{Item}
 
@@ -9,9 +9,7 @@ use Rattle.cborn_model.specs.declared.items.Item.{Item}
 -- ---- at most one
 
 pub number_once : (s : Bool) (n : ℕ) (a b : Value) → IsNumber s n a → IsNumber s n b → a ≡ b
-number_once s n a b h k =
-    let e : h.0 ≡ k.0 = one_magnitude h.0 k.0 h.1 k.1 h.2 k.2 (h.3 ∙ sym k.3) in
-    h.4 ∙ ap (integer s) e ∙ sym k.4
+number_once s n a b h1 h2 = grind (arith, integer, one_magnitude)
 
 pub string_once : (t : Tree) (b c : List ℕ) → IsByteString t b → IsByteString t c → b ≡ c
 string_once (Bytes p w d) b c h k = h ∙ sym k
@@ -55,21 +53,10 @@ mutual
 -- ---- byte strings
 
 pub string_means : (t : Tree) (b : List ℕ) → IsByteString t b → Means t (bytes b)
-string_means (Bytes p w c) b h = ap bytes h
-string_means (ByteChunks p cs) b h = ap bytes h
-string_means _ b h = absurd h
+string_means t b h1 = grind (arith, bytes)
 
 pub means_string : (t : Tree) (b : List ℕ) → Means t (bytes b) → IsByteString t b
-means_string (Uint p w n) b h = let e : bytes b ≡ integer false h.0 = h.4 in cc
-means_string (Nint p w n) b h = let e : bytes b ≡ integer true h.0 = h.4 in cc
-means_string (Text p w c) b h = let e = h.1 in cc
-means_string (TextChunks p cs) b h = let e = h.1 in cc
-means_string (Items p s ts) b h = let e = h.2 in cc
-means_string (Pairs p s es) b h = let e = h.3 in cc
-means_string (Tagged p w n t) b (inl h) = let e = h.1.2.4 in cc
-means_string (Tagged p w n t) b (inr (inl h)) = let e = h.1.2.4 in cc
-means_string (Tagged p w n t) b (inr (inr h)) = let e = h.4 in cc
-means_string _ b h = cc
+means_string t b h1 = grind (arith, bytes, false, inl, inr, integer, true)
 
 -- ---- how many bytes a node spells
 
@@ -98,25 +85,16 @@ joined_text [] h = IsUtf8-nil
 joined_text (c ∷ cs) h = IsUtf8-append c.bytes (joined_chunks cs) h.0 (joined_text cs h.1)
 
 pub content_fits : (t : Tree) (b : List ℕ) → IsByteString t b → Fits t → AreBytes b
-content_fits (Bytes p w c) b h f = subst AreBytes (sym h) f.1
-content_fits (ByteChunks p cs) b h f = subst AreBytes (sym h) (joined_bytes cs f)
-content_fits _ b h f = absurd h
+content_fits t b h1 h2 = grind (arith, joined_bytes)
 
 content_below : (t : Tree) (b : List ℕ) → IsByteString t b → Short (spelled t) → length b < 2 ^ 64
-content_below (Bytes p w c) b h l = let e = ap length h in omega (arith, length-append (head ByteString (Given w (length c))) c)
-content_below (ByteChunks p cs) b h l =
-    let e = ap length h in
-    omega (arith, length_of_chunks ByteString cs, length-append (head ByteString EndlessArgument) (flat_map (chunk_bytes ByteString) cs), length-append (head ByteString EndlessArgument ++ flat_map (chunk_bytes ByteString) cs) (ending Endless))
-content_below _ b h l = absurd h
+content_below t b h1 h2 = grind (arith, chunk_bytes, ending, flat_map, head, length, length-append, length_of_chunks)
 
 pub number_valid : (s : Bool) (n : ℕ) (v : Value) → IsNumber s n v → n < 2 ^ 64 → IsProper v
 number_valid s n v h l = subst IsProper (sym h.4) (h.1, h.2, shortest_below h.0 n h.2 h.3 l)
 
 bignum_valid : (s : Bool) (t : Tree) (v : Value) → IsBignum s t v → Fits t → Short (spelled t) → IsProper v
-bignum_valid s t v h f l =
-    let k = h.2 in
-    let below : length k.0 ≤ length h.0 = no_more k.0 h.0 (content_fits t h.0 h.1 f) k.2 k.3 in
-    subst IsProper (sym k.4) (k.1, k.2, (let m = content_below t h.0 h.1 l in omega arith))
+bignum_valid s t v h1 h2 h3 = grind (arith, content_below, content_fits, length, no_more)
 
 pub left : (x y : List ℕ) → Short (x ++ y) → Short x
 left x y l = omega (arith, length-append x y)
@@ -166,21 +144,10 @@ mutual
 -- ---- no deeper
 
 shallow_number : (s : Bool) (n : ℕ) (v : Value) → IsNumber s n v → n < 2 ^ 64 → value_depth v ≤ 0
-shallow_number s n v h l =
-    let k : big_endian h.0 < 2 ^ 64 = omega (arith, h.3) in
-    let e : value_depth (integer s h.0) ≡ 0 = ap (λ (b : Bool). cond b 0 1) (lt-ltb (big_endian h.0) (2 ^ 64) k) in
-    let d : value_depth v ≡ value_depth (integer s h.0) = ap value_depth h.4 in
-    omega arith
+shallow_number s n v h1 h2 = grind (arith, big_endian, cond, integer, lt-ltb, value_depth)
 
 shallow_bignum : (s : Bool) (n : ℕ) (v : Value) → IsNumber s n v → value_depth v ≤ 1
-shallow_bignum s n v h =
-    let d : value_depth v ≡ value_depth (integer s h.0) = ap value_depth h.4 in
-    let e : value_depth (integer s h.0) ≤ 1 = small (ltb (big_endian h.0) (2 ^ 64)) in
-    omega arith
-  where
-    small : (b : Bool) → cond b 0 1 ≤ 1
-    small true = omega arith
-    small false = omega arith
+shallow_bignum s n v h1 = grind (arith, big_endian, cond, false, integer, ltb, true, value_depth)
 
 at_value : (v w : Value) (n : ℕ) → v ≡ w → value_depth w ≤ n → value_depth v ≤ n
 at_value v w n e h = let d : value_depth v ≡ value_depth w = ap value_depth e in omega arith
@@ -257,9 +224,7 @@ couples_built _ _ _ h m = absurd (search (h, m))
 
 -- once a loop has passed all
 pub array_built : (p : ℕ) (s : Size) (ns : List Tree) (i : ℕ) (items : List Item) (l : List Value) (v : Value) → length ns ≤ i → AllZip IsItemOf (take i ns) items → l ≡ map item_value items → Means (Items p s (trees ns)) v → array (values_of l) ≡ v
-array_built p s ns i items l v n h e m =
-    ap (λ z. array (values_of z)) e ∙ ap array (values_built ns items m.0 (subst (λ t. AllZip IsItemOf t items) (take_all i ns n) h) m.1) ∙ sym m.2
+array_built p s ns i items l v h1 h2 h3 h4 = grind (arith, array, take_all, values_built, values_of)
 
 pub map_built : (p : ℕ) (s : Size) (ns : List (Tree × Tree)) (i : ℕ) (pairs : List (Item × Item)) (l : List (Value × Value)) (v : Value) → length ns ≤ i → AllZip IsPairOf (take i ns) pairs → l ≡ map pair_value pairs → Means (Pairs p s (entries ns)) v → dict (pairs_of l) ≡ v
-map_built p s ns i pairs l v n h e m =
-    ap (λ z. dict (pairs_of z)) e ∙ ap dict (couples_built ns pairs m.0 (subst (λ t. AllZip IsPairOf t pairs) (take_all i ns n) h) m.1) ∙ sym m.3
+map_built p s ns i pairs l v h1 h2 h3 h4 = grind (arith, couples_built, dict, pairs_of, take_all)

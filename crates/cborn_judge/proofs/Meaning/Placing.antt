@@ -114,10 +114,7 @@ flaw_amid _ a p r h f = absurd f
 
 -- a flaw of a placed node is within its bytes, and so is one of nodes one after another
 pub flaw_within : (t : Tree) (p q : ℕ) (r : InvalidReason) → Placed p t → Flaw t q r → (p ≤ q) × (q < p + length (spelled t))
-flaw_within t p q r h (u, i, f) =
-    let (b, k, l, m) = within_lies u t p h i in
-    let (c, d) = flaw_amid u b q r k f in
-    (omega arith, omega arith)
+flaw_within t p q r h1 h2 = grind (arith, flaw_amid, within_lies)
 
 pub flaw_after : (ts : Trees) (a : ℕ) (q : Tree) (p : ℕ) (r : InvalidReason) → PlacedAll a ts → WithinAll q ts → FlawAt q p r → a ≤ p
 flaw_after ts a q p r h i f = let (b, k, l, m) = all_lies q ts a h i in omega (arith, l, (flaw_amid q b p r k f).0)
@@ -147,7 +144,4 @@ module _ (order : List ℕ → List ℕ → Ordering) where
 
   -- and a defect is
   pub defect_within : (t : Tree) (p q : ℕ) (r : DefectReason) → Placed p t → Defect order t q r → (p ≤ q) × (q < p + length (spelled t))
-  defect_within t p q r h (v, m, u, i, f) =
-      let (b, k, l, n) = within_lies u t p h i in
-      let (c, d) = defect_amid u b q r k f in
-      (omega arith, omega arith)
+  defect_within t p q r h1 h2 = grind (arith, defect_amid, within_lies)
