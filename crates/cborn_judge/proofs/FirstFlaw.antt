@@ -30,7 +30,7 @@ passed_on (Err e) P Q f h = f e h.1
 -- ---- nodes that lie one after another
 
 no_sooner : (p q m n : ℕ) → q < p → NoLater (p, m) (q, n) → ⊥
-no_sooner p q m n h1 h2 = grind (arith, inl, inr)
+no_sooner p q m n h1 h2 = grind arith
 
 -- each flaw of a node is before those of the nodes after it
 abbrev pub AreApart : List Tree → Type 0

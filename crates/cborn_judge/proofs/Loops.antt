@@ -33,4 +33,4 @@ module _ {A B : Type 0} (R : A → B → Type 0) where
   zip_more xs ys x y h r = zip_append xs ys (x ∷ []) (y ∷ []) h (r, tt)
 
   pub zip-take_more : (xs : List A) (i : ℕ) (x : A) (ys zs : List B) (y : B) → i < length xs → x ≡ get_or xs i x → AllZip R (take i xs) ys → R x y → zs ≡ ys ++ y ∷ [] → AllZip R (take (i + 1) xs) zs
-  zip-take_more xs i x ys zs y h1 h2 h3 h4 h5 = grind (arith, passed_one, take, zip_more)
+  zip-take_more xs i x ys zs y h1 h2 h3 h4 h5 = grind (arith, passed_one, zip_more)

@@ -78,7 +78,7 @@ module _ {X : Type 0} (order : List ℕ → List ℕ → Ordering) (laws : IsKey
   not_less_itself a b e l = never_itself order laws a (subst (λ c. order a c ≡ Less) (sym e) l)
 
   comes_on : (x y z : X) → Comes x y → Comes y z → Comes x z
-  comes_on x y z h1 h2 = grind (arith, inl, inr)
+  comes_on x y z h1 h2 = grind arith
 
   first_comes : (x : X) (xs : List X) (z : X) → InOrder (x ∷ xs) → IsIn z xs → Comes x z
   first_comes x [] z o i = absurd i
@@ -87,7 +87,7 @@ module _ {X : Type 0} (order : List ℕ → List ℕ → Ordering) (laws : IsKey
 
   -- between two with equal bytes stand none with others
   between : (x y z : X) → counts (bytes z) ≡ true → Comes x y → Comes y z → bytes x ≡ bytes z → (bytes x ≡ bytes y) × (position y < position z)
-  between x y z h1 h2 h3 h4 = grind (arith, inl, inr, never_both, not_less_itself)
+  between x y z h1 h2 h3 h4 = grind (arith, never_both, not_less_itself)
 
   tied_earlier : (xs : List X) (z : X) → counts (bytes z) ≡ true → InOrder xs → IsTied bytes xs z → HasEarlier xs z
   tied_earlier (x ∷ y ∷ ys) z s o (inl t) =
@@ -133,7 +133,7 @@ module _ {X : Type 0} (order : List ℕ → List ℕ → Ordering) (laws : IsKey
   AtOnePlace x y = counts (bytes x) && (counts (bytes y) && eqb (position x) (position y))
 
   at_one_turned : (x y : X) → AtOnePlace x y ≡ AtOnePlace y x
-  at_one_turned x y = grind (arith, cases_eq, eq-eqb, eqb, eqb-true, false, inl, inr, true)
+  at_one_turned x y = grind (arith, cases_eq, eq-eqb, eqb-true)
 
   positions_apart : (xs : List X) → LieBefore counts bytes position xs → IsDistinct AtOnePlace xs
   unfolding IsDistinct
@@ -152,7 +152,7 @@ module _ {X : Type 0} (order : List ℕ → List ℕ → Ordering) (laws : IsKey
       apart_from x (y ∷ ys) h = (apart x y (h y (inl refl)), apart_from x ys (λ z i. h z (inr i)))
 
   comes_from : (x y : X) → is_lt (key_order order bytes position y x) ≡ false → AtOnePlace x y ≡ false → Comes x y
-  comes_from x y h1 h2 = grind (arith, cases_eq, eq-eqb, false, ge_from_not_lt, inl, inr, is_lt, nat_cmp, ordering_reverse, ordering_then, true≢false)
+  comes_from x y h1 h2 = grind (arith, cases_eq, eq-eqb, ge_from_not_lt, is_lt, true≢false)
 
   in_order_sorted : (ys : List X) → IsSortedBy (λ x y. is_lt (key_order order bytes position x y)) ys → IsDistinct AtOnePlace ys → InOrder ys
   unfolding IsDistinct

@@ -5,10 +5,10 @@ use Rattle.cborn_judge.proofs.Meaning.Judging.{inner_means, within_itself}
 use Rattle.cborn_judge.proofs.Encoded.Tidying.{tidy_det, det_tidy, all_det, all_tidy, tidy_proper}
 
 same_or_not : (v w : Width) → (v ≡ w) ⊎ (v ≢ w)
-same_or_not v w = grind (arith, inl, inr)
+same_or_not v w = grind arith
 
 less_or_not : (o : Ordering) → (o ≡ Less) ⊎ (o ≢ Less)
-less_or_not o = grind (arith, inl, inr)
+less_or_not o = grind arith
 
 not_long : (w : Width) (n : ℕ) → (IsLong w n → ⊥) → w ≡ least n
 not_long w n h = elim (same_or_not w (least n)) [ inl e ↦ e | inr e ↦ absurd (h e) ]
@@ -48,7 +48,7 @@ module _ (order : List ℕ → List ℕ → Ordering) (laws : IsKeyOrder order) 
       one_of_same order laws v v x (spelled t) p p (same_itself v) d (tidy_det order t v k.0 m k.1)
 
   not_descending : (k l : Tree) → Known k → Known l → order (spelled k) (spelled l) ≡ Less → NotAbove order k l → ⊥
-  not_descending k l h1 h2 h3 h4 = grind (arith, spelled, spells_it)
+  not_descending k l h1 h2 h3 h4 = grind (arith, spells_it)
 
   rises_along : (k : Tree) (es : Entries) (p : ℕ) → Known k → FitsEntries es → EntriesTidy order es → Rising order (spelled k ∷ keys (spelled_pairs es)) → Descends order k es p → ⊥
   rises_along k no_entry p h f y r d = d
@@ -56,14 +56,14 @@ module _ (order : List ℕ → List ℕ → Ordering) (laws : IsKeyOrder order) 
   rises_along k (entry l u es) p h f y r (inr d) = rises_along l es p (f.0, y.0) f.2 y.2 r.1 d
 
   no_descent : (es : Entries) (p : ℕ) → FitsEntries es → EntriesTidy order es → Rising order (keys (spelled_pairs es)) → HasDescent order es p → ⊥
-  no_descent es p h1 h2 h3 h4 = grind (arith, entry, no_entry, rises_along)
+  no_descent es p h1 h2 h3 h4 = grind (arith, rises_along)
 
   fixed_size : (s : Size) (n : ℕ) (r : DefectReason) → SizeIsTidy s n → SizeDefect s n r → ⊥
   fixed_size (Fixed w) n r h d = d.1 h
   fixed_size Endless n r h d = h
 
   tidy_node : (t : Tree) (p : ℕ) (r : DefectReason) → Known t → DefectAt order t p r → ⊥
-  tidy_node t p r h1 h2 = grind (arith, count, count_entries, fixed_size, inl, inr, no_descent)
+  tidy_node t p r h1 h2 = grind (arith, fixed_size, no_descent)
 
   -- ---- a node without a defect is tidy
 

@@ -12,7 +12,7 @@ joined_spelled (entry k v es) = ap (λ l. spelled k ++ spelled v ++ l) (joined_s
 -- ---- from tidy to the encoding
 
 is_least_head : (m : Major) (w : Width) (n k : ℕ) → WidthFits w n → w ≡ least n → k ≡ n → IsLeastHead (code m) k (head m (Given w n))
-is_least_head m w n k h1 h2 h3 = grind (arith, code, head, least)
+is_least_head m w n k h1 h2 h3 = grind arith
 
 -- what isn't loose is a magnitude above 64 bits
 pub record Wide (b : List ℕ) : Type 0 where
@@ -20,14 +20,14 @@ pub record Wide (b : List ℕ) : Type 0 where
   pub large : 2 ^ 64 ≤ big_endian b
 
 pub not_loose : (b : List ℕ) → (IsLoose b → ⊥) → Wide b
-not_loose b h1 = grind (arith, cases_lt, inl, inr, large, length)
+not_loose b h1 = grind (arith, cases_lt, large)
 
 module _ (order : List ℕ → List ℕ → Ordering) where
   string_det : (m : Major) (w : Width) (b : List ℕ) → WidthFits w (length b) → w ≡ least (length b) → IsString (code m) b (head m (Given w (length b)) ++ b)
   string_det m w b h e = (head m (Given w (length b)), is_least_head m w (length b) (length b) h e refl, refl)
 
   number_det : (s : Bool) (m : Major) (w : Width) (n : ℕ) (v : Value) → code m ≡ major_of s → IsNumber s n v → WidthFits w n → w ≡ least n → Det order v (head m (Given w n))
-  number_det s m w n v h1 h2 h3 h4 = grind (arith, big_endian, code, head, holds_below, inl, is_least_head, major_of)
+  number_det s m w n v h1 h2 h3 h4 = grind (arith, holds_below, is_least_head)
 
   bignum_det : (s : Bool) (w : Width) (n : ℕ) (t : Tree) (v : Value) → n ≡ bignum_tag s → IsBignum s t v → WidthFits w n → w ≡ least n → Fits t → IsTidy order t → ((b : List ℕ) → IsByteString t b → IsLoose b → ⊥) → Det order v (head Tag (Given w n) ++ spelled t)
   bignum_det s w n (Bytes q u b) v i h f e g d l =
@@ -88,7 +88,7 @@ module _ (order : List ℕ → List ℕ → Ordering) where
 
   -- an indefinite length begins no encoding
   not_endless : (m : Major) (c x s : List ℕ) (v : Value) → Det order v x → head m EndlessArgument ++ c ≡ x ++ s → ⊥
-  not_endless m c x s v h1 h2 = grind (arith, alone, append_assoc, code, following, head, information, least, low_bits_below)
+  not_endless m c x s v h1 h2 = grind (arith, alone, append_assoc, low_bits_below)
 
   abbrev Spelt : List ℕ → List ℕ → List ℕ → List ℕ → Type 0 → Type 0
   Spelt a r x s T = (a ≡ x) × (r ≡ s) × T
@@ -114,7 +114,7 @@ module _ (order : List ℕ → List ℕ → Ordering) where
 
   -- a tidy byte string's content is what its encoding says
   content_one : (t : Tree) (b c : List ℕ) → Fits t → IsTidy order t → IsByteString t b → IsString 2 c (spelled t) → b ≡ c
-  content_one t b c h1 h2 h3 h4 = grind (arith, spelled, string_det, string_one)
+  content_one t b c h1 h2 h3 h4 = grind (arith, string_det, string_one)
 
   -- nor is that of a large bignum loose
   large_content : (t : Tree) (v : Value) (b : List ℕ) → Fits t → IsTidy order t → IsProper v → Det order v (spelled t) → IsLarge v → IsByteString t b → IsLoose b → ⊥
@@ -179,7 +179,7 @@ count_fits : (s : Size) (n k : ℕ) → SizeIsTidy s n → SizeFits s n → k �
 count_fits s n k h1 h2 h3 = grind (arith, holds_below)
 
 tidy_bignum : (order : List ℕ → List ℕ → Ordering) (s : Bool) (t : Tree) (v : Value) → Fits t → IsTidy order t → IsBignum s t v → IsProper v
-tidy_bignum order s t v h1 h2 h3 = grind (arith, holds_below, length, no_more)
+tidy_bignum order s t v h1 h2 h3 = grind (arith, holds_below, no_more)
 
 mutual
   pub tidy_proper : (order : List ℕ → List ℕ → Ordering) (t : Tree) (v : Value) → Fits t → IsTidy order t → Means t v → IsProper v

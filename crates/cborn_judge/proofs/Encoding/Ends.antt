@@ -113,7 +113,7 @@ no_string t h b s = sound_one t (bytes b) h (string_means t b s)
 
 -- what lies in a buffer after its front y
 pub rest_read : (r : Option (Bor (List ℕ))) (d : Bor (List ℕ)) (p : ℕ) (xs y z : List ℕ) → MatchOption r ((length xs < p) ⊎ (length xs < length xs)) (λ x. (p ≤ length xs) × (length xs ≤ length xs) × (x.now ≡ slice_range xs p (length xs)) × (length x.now + p ≡ length xs)) → xs ≡ y ++ z → p ≡ length y → (unwrap_or r d).now ≡ z
-rest_read r d p xs y z h1 h2 h3 = grind (arith, drop, drop_at, inl, inr, length, length-append, take, take_all)
+rest_read r d p xs y z h1 h2 h3 = grind (arith, drop_at, length-append, take_all)
 
 module _ (order : List ℕ → List ℕ → Ordering) where
   pub one_encoded : (t : Tree) (x : List ℕ) → AreEncodedAs order (t ∷ []) x → IsEncodedAs order t x
@@ -138,10 +138,10 @@ module _ (order : List ℕ → List ℕ → Ordering) where
   bignum_coded p w true t b m c is all shortest fits same d = inl (integer true m, inr (inl (refl, (b, is, (m, all, shortest, same, refl)))), (all, shortest, fits), d)
 
 pub bignum_nothing : (p : ℕ) (w : Width) (s : Bool) (t : Tree) → ((b : List ℕ) → IsByteString t b → ⊥) → MeansNothing (Tagged p w (bignum_tag s) t)
-bignum_nothing p w s t h1 = grind (arith, false, inl, inr, true)
+bignum_nothing p w s t h1 = grind arith
 
 pub number_of_bignum : (n : ℕ) → (n ≡ 2) ⊎ (n ≡ 3) → bignum_tag (eqb n 3) ≡ n
-number_of_bignum n h1 = grind (arith, bignum_tag, eqb, inl, inr)
+number_of_bignum n h1 = grind arith
 
 -- the flaw of a tag over what is no byte string
 pub bad_found : (p : ℕ) (w : Width) (s : Bool) (t : Tree) → ((b : List ℕ) → IsByteString t b → ⊥) → FindsFlaw (FlawAt (Tagged p w (bignum_tag s) t)) (Some (record { place = p; reason = BadBignum }))
@@ -154,14 +154,14 @@ pub only : (ts : List Tree) → (t : Tree) × (ts ≡ t ∷ []) → ts ≡ last_
 only ts (t, e) = e ∙ ap (λ u. u ∷ []) (sym (ap last_of e))
 
 pub tag_nothing : (p : ℕ) (w : Width) (n : ℕ) (t : Tree) → n ≢ 2 → n ≢ 3 → IsSound true (t ∷ []) → MeansNothing (Tagged p w n t)
-tag_nothing p w n t h1 h2 h3 = grind (arith, inl, inr, sound_one)
+tag_nothing p w n t h1 h2 h3 = grind (arith, sound_one)
 
 pub tag_flawless : (p : ℕ) (w : Width) (n : ℕ) (t : Tree) → n ≢ 2 → n ≢ 3 → FindsFlaw (FlawAt (Tagged p w n t)) None
 tag_flawless p w n t two three q r f = elim f.2 [ inl e ↦ two e | inr e ↦ three e ]
 
 -- the defect of its head is all that a tag adds
 pub tag_long : (p : ℕ) (w : Width) (n : ℕ) (t : Tree) (o : Option SomeDefect) → n ≢ 2 → n ≢ 3 → FindsDefect (LongAt p w n) o → FindsDefect (Either (LongAt p w n) (LooseAt p n t)) o
-tag_long p w n t o h1 h2 h3 = grind (arith, alike, inl, inr)
+tag_long p w n t o h1 h2 h3 = grind (arith, alike)
 
 module _ (order : List ℕ → List ℕ → Ordering) where
   pub tag_coded : (p : ℕ) (w : Width) (n : ℕ) (t : Tree) (h x : List ℕ) → n ≢ 2 → n ≢ 3 → n < 2 ^ 64 → IsLeastHead 6 n h → AreEncodedAs order (t ∷ []) x → Coded order (Tagged p w n t) (h ++ x)
@@ -180,7 +180,7 @@ opening_of (Container.Chunks k) p = in_chunks p k
 opening_of Container.Input p = in_chunks p OfBytes
 
 opened_as : (l : Level) (o : Opening) (a : Container) → l.container ≡ a → Opens l o → opening_of a l.place ≡ o
-opened_as l o a h1 h2 = grind (arith, an_array)
+opened_as l o a h1 h2 = grind arith
 
 -- ---- what has ended
 
@@ -190,7 +190,7 @@ is_map _ = false
 
 -- a container that is no map has no marks
 unmarked : (order : List ℕ → List ℕ → Ordering) (l : Level) (o : Opening) (ts : List Tree) (ms : List Mark) (z : List ℕ) → is_map l.container ≡ false → Inner order l o ts ms z → ms ≡ []
-unmarked order l o ts ms z h1 h2 = grind (arith, a_map, true≢false)
+unmarked order l o ts ms z h1 h2 = grind (arith, true≢false)
 
 has_ended : (order : List ℕ → List ℕ → Ordering) (e k : Encodings) (f : Partial) (o : Opening) (ts : List Tree) (found : Findings) → Ends o ts → StandsIn order e (inside f o ts) → k.outer.items ≡ e.outer.items → k.innermost ≡ e.innermost
     → ((ns own : List Mark) (z : List ℕ) → marks_of e.pairs ≡ ns ++ own → e.innermost.pairs ≡ length ns → Inner order e.innermost o ts own z → EndsWell order e.innermost o own e.out.items k.out.items found × (marks_of k.pairs ≡ ns)) → HasEnded order k f o ts found

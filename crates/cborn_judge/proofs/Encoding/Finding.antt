@@ -20,7 +20,7 @@ module _ {R : Type 0} (at : Tree → ℕ → R → Type 0) where
   InOne t p r = (q : Tree) × Within q t × at q p r
 
   all_more : (ts : List Tree) (t : Tree) (p : ℕ) (r : R) → Either (InAll ts) (InOne t) p r ↔ InAll (ts ++ t ∷ []) p r
-  all_more ts t p r = grind (arith, inl, inr, within_more)
+  all_more ts t p r = grind (arith, within_more)
 
   amid_put : (f : Partial) (t : Tree) (p : ℕ) (r : R) → Either (Amid at f) (InOne t) p r ↔ Amid at (put f t) p r
   amid_put (top ts) t p r = all_more ts t p r
@@ -138,7 +138,7 @@ module _ (order : List ℕ → List ℕ → Ordering) where
   both_defects F G H a b o w h k e = found_alike defect_rank (λ d. d.place) (λ d. d.reason) (Either F G) H o w (found_both defect_rank (λ d. d.place) (λ d. d.reason) F G a b o h k e)
 
   pub finds_open : (f : Partial) (o : Opening) (a : Option SomeFlaw) (d : Option SomeDefect) → Finds order f a d → Finds order (inside f o []) a d
-  finds_open f o a d h1 = grind (arith, amid_open, defect_rank, flaw_rank, found_alike, inside)
+  finds_open f o a d h1 = grind (arith, amid_open, found_alike)
 
   pub finds_put : (f : Partial) (t : Tree) (a b o : Option SomeFlaw) (d e i : Option SomeDefect) → FindsFlaw (Flaw t) b → FindsDefect (DefectIn order t) e → IsEarliestFlaw a b o → IsEarliestDefect d e i → Finds order f a d → Finds order (put f t) o i
   finds_put f t a b o d e i fl de g j h = (
@@ -155,7 +155,7 @@ module _ (order : List ℕ → List ℕ → Ordering) where
       (v.0 ∷ vs.0, (v.1, vs.1))
 
   pub sound : (flawed : Bool) (ts : List Tree) → IsSound flawed ts → ((p : ℕ) (r : InvalidReason) → FlawIn (trees ts) p r → ⊥) → flawed ≡ false
-  sound flawed ts h1 h2 = grind (arith, all_mean, false, true)
+  sound flawed ts h1 h2 = grind (arith, all_mean)
 
   pub finds_close : (f : Partial) (p : Opening) (ts : List Tree) (flawed : Bool) (a b o : Option SomeFlaw) (d e i : Option SomeDefect) → Ends p ts → IsSound flawed ts → FindsFlaw (OwnFlaw p ts) b → (flawed ≡ false → b ≡ None → FindsDefect (OwnDefect order p ts) e)
       → IsEarliestFlaw a b o → IsEarliestDefect d e i → Finds order (inside f p ts) a d → Finds order (put f (built p ts)) o i

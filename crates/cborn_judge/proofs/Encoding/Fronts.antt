@@ -3,7 +3,7 @@ use Rattle.std.specs.Prelude.{◌≡◌, ◌++◌}
 use Rattle.cborn_judge.proofs.Common.{arith, ℕ, List, length, refl, subst, Option, None, Some, Major, unwrap_or, Array, Map, Tag, code, IsLeastHead, Opening, an_array, a_map, a_tag, in_chunks, built, Tree, place, Appends, IsOpening, IsFront, IsHeadFront, BeginsAs, Container}
 
 head_front : (m : ℕ) (c : Option ℕ) (h : List ℕ) → IsLeastHead m (unwrap_or c 0) h → IsHeadFront m c h
-head_front m c h h1 = grind (arith, length)
+head_front m c h h1 = grind arith
 
 module _ (a : Container) (q : ℕ) (major : Major) (argument : Option ℕ) where
   same : (m : Major) (c : Option ℕ) (h : List ℕ) → major ≡ m → argument ≡ c → IsLeastHead (code major) (unwrap_or argument 0) h → IsLeastHead (code m) (unwrap_or c 0) h
@@ -16,4 +16,4 @@ module _ (a : Container) (q : ℕ) (major : Major) (argument : Option ℕ) where
   front_there (in_chunks p k) old new b (h, least, e) = (h, head_front (code major) None h (same major None h refl b.1 least), b.0, e)
 
 pub built_place : (a : Container) (q : ℕ) (o : Opening) (ts : List Tree) → IsOpening a q o → place (built o ts) ≡ q
-built_place a q o ts h1 = grind (arith, a_map, a_tag, an_array, in_chunks)
+built_place a q o ts h1 = grind arith

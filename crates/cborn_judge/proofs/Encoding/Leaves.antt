@@ -16,7 +16,7 @@ string_place p OfText w x = refl
 
 module _ (order : List ℕ → List ℕ → Ordering) where
   pub no_chunks : (outer : List Level) (l : Level) (f : Partial) (ms : List Mark) (y : List ℕ) → Stands order outer l f ms y → is_chunks l ≡ false → TakesItem f
-  no_chunks outer l f ms y h1 h2 = grind (arith, are_chunks, false, in_chunks, inside, true)
+  no_chunks outer l f ms y h1 h2 = grind arith
 
   -- with the next bytes of its content
   pub written_more : (e n : Encodings) (s : OpenString) (f : Partial) (y h x b : List ℕ) → Written order e s f y h x → n.out.items ≡ e.out.items ++ b → n.innermost ≡ e.innermost → StandsAs order n f y → AreBytes b → Written order n s f y h (x ++ b)
@@ -40,19 +40,19 @@ module _ (order : List ℕ → List ℕ → Ordering) where
   string_coded p OfText w n h x false front len short are is = inr (refl, λ v m. true≢false (sym (is.1 m.0)))
 
   chunk_content : (k : StringKind) (good : Bool) (x : List ℕ) → IsTrue good ↔ IsContent k x → IsChunkContent (not good) k x (kept good x)
-  chunk_content k good x h1 = grind (arith, false, true, true≢false)
+  chunk_content k good x h1 = grind (arith, true≢false)
 
   pub chunk_there : (outer : List Level) (l : Level) (f : Partial) (ms : List Mark) (y : List ℕ) (p : ℕ) (k : StringKind) (w : Width) (x : List ℕ) (good : Bool) → Stands order outer l f ms y → is_chunks l ≡ true → TakesString f k → IsTrue good ↔ IsContent k x
       → IsChunk f (string_tree p k w x) (not good) (kept good x)
-  chunk_there outer l f ms y p k w x good h1 h2 h3 h4 = grind (arith, are_chunks, chunk_content, false, in_chunks, inside, kept, not, string_tree, top, true)
+  chunk_there outer l f ms y p k w x good h1 h2 h3 h4 = grind (arith, chunk_content)
 
 -- ---- integers, simple values and strings in what an encoder holds
 
 pub integer_place : (p : ℕ) (s : Bool) (w : Width) (n : ℕ) → place (integer_tree p s w n) ≡ p
-integer_place p s w n = grind (arith, false, true)
+integer_place p s w n = grind arith
 
 pub sound_integer : (p : ℕ) (s : Bool) (w : Width) (n q : ℕ) (r : InvalidReason) → Flaw (integer_tree p s w n) q r → ⊥
-sound_integer p s w n q r h1 = grind (arith, false, true)
+sound_integer p s w n q r h1 = grind arith
 
 module _ (order : List ℕ → List ℕ → Ordering) where
   pub integer_encoded : (p : ℕ) (s : Bool) (w : Width) (n : ℕ) (x : List ℕ) → WidthFits w n → IsLeastHead (major_of s) n x → IsEncodedAs order (integer_tree p s w n) x
@@ -68,7 +68,7 @@ module _ (order : List ℕ → List ℕ → Ordering) where
       (integer true m.0, number, number_valid true n (integer true m.0) number below, inl (subst (λ k. k < 2 ^ 64) (sym m.3) below, subst (λ k. IsLeastHead 1 k x) (sym m.3) h))
 
   pub integer_defect : (p : ℕ) (s : Bool) (w : Width) (n : ℕ) (o : Option SomeDefect) → FindsDefect (LongAt p w n) o → FindsDefect (DefectIn order (integer_tree p s w n)) o
-  integer_defect p s w n o h1 = grind (arith, false, leaf_found, same, true)
+  integer_defect p s w n o h1 = grind (arith, leaf_found, same)
 
   pub finds_integer : (f : Partial) (p : ℕ) (s : Bool) (w : Width) (n : ℕ) (a : Option SomeFlaw) (d e i : Option SomeDefect) → FindsDefect (LongAt p w n) e → IsEarliestDefect d e i → Finds order f a d → Finds order (put f (integer_tree p s w n)) a i
   finds_integer f p s w n a d e i h k g = finds_put order f (integer_tree p s w n) a None a d e i (sound_integer p s w n) (integer_defect p s w n e h) (none_first (λ f. (f.place, flaw_rank f.reason)) a) k g
@@ -122,7 +122,7 @@ module _ (order : List ℕ → List ℕ → Ordering) where
   IsFine t x = IsEncodedAs order t x × FindsFlaw (Flaw t) None × FindsDefect (DefectIn order t) None
 
   short_integer : (p : ℕ) (s : Bool) (w : Width) (n : ℕ) (x : List ℕ) → WidthFits w n → w ≡ least n → head_bytes (major_of s) w n ≡ x → IsFine (integer_tree p s w n) x
-  short_integer p s w n x h1 h2 h3 = grind (arith, integer_defect, integer_encoded, least_head, major_of, sound_integer)
+  short_integer p s w n x h1 h2 h3 = grind (arith, integer_defect, integer_encoded, least_head, sound_integer)
 
   short_string : (p : ℕ) (k : StringKind) (w : Width) (b x : List ℕ) → WidthFits w (length b) → AreBytes b → w ≡ least (length b) → head_bytes (code (kind_major k)) w (length b) ++ b ≡ x → IsContent k b → IsFine (string_tree p k w b) x
   short_string p k w b x fits are short e content =

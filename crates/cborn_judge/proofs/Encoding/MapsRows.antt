@@ -49,7 +49,7 @@ module _ (order : List ℕ → List ℕ → Ordering) where
   -- ---- what a node means that means something
 
   meant : (t : Tree) (v : Value) (x : List ℕ) → Coded order t x → Means t v → IsProper v × Det order v x
-  meant t v x h1 h2 = grind (arith, inl, inr, means_once)
+  meant t v x h1 h2 = grind (arith, means_once)
 
   -- each node means something
   pub record AreWritten (rs : List Row) (ps : Couples) : Type 0 where
@@ -140,7 +140,7 @@ module _ (order : List ℕ → List ℕ → Ordering) where
     -- ---- which key isn't above the one before it
 
     encoded : (t : Tree) (x : List ℕ) → x ≢ [] → Coded order t x → IsEncodedAs order t x
-    encoded t x h1 h2 = grind (arith, inl, inr)
+    encoded t x h1 h2 = grind arith
 
     falls : (m : Tree × Tree) (c : List ℕ) (ns : List (Tree × Tree)) (rs : List Row) (p : ℕ) → IsEncodedAs order m.0 c → AllZip IsRow ns rs → AreFilled rs → Falls order c rs p ↔ Descends order m.0 (entries ns) p
     falls m c [] [] p d h f = same

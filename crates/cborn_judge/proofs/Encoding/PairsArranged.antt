@@ -124,7 +124,7 @@ module _ {S : Type 0} (mark : S → Mark) (from : ℕ) where
   none_left old l = drop_all from (map mark old) (omega (arith, length-map old mark, l))
 
   pub front_kept : (old rest new : List S) → from ≤ length old → new ≡ take from old ++ rest → take from (map mark new) ≡ take from (map mark old)
-  front_kept old rest new h1 h2 = grind (arith, length-take-le, map, take, take-map, take_at)
+  front_kept old rest new h1 h2 = grind (arith, length-take-le, take-map, take_at)
 
   pub all_kept : (n : ℕ) (old part new : List S) → map mark part ≡ map mark (take n (drop from old)) → new ≡ take from old ++ (part ++ drop n (drop from old)) → map mark new ≡ map mark old
   all_kept n old part new k e =

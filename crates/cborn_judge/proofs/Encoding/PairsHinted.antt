@@ -57,7 +57,7 @@ module _ {S : Type 0} (seen : S → Mark) (hinted : S → ℕ) (b : List ℕ) wh
     next_filled before key h1 = grind (arith, true≢false)
 
     remembers : (before key : List ℕ) (last : ℕ) (next : List ℕ) (after : ℕ) → last ≡ hint before → Remembers before key last next after → (next ≡ last_filled before key) × (after ≡ hint next)
-    remembers before key last next after h1 h2 = grind (arith, empty, inl, inr, last_filled, next_filled)
+    remembers before key last next after h1 h2 = grind (arith, empty, next_filled)
 
     no_fall : Tells order hint → (before key : List ℕ) (place : ℕ) → AreBytes before → AreBytes key → hint before < hint key → FindsDefect (FallAt order before key place) None
     no_fall tells before key place h i l p r f = f.1.3 (tells before key h i l)
@@ -97,7 +97,7 @@ module _ {S : Type 0} (seen : S → Mark) (hinted : S → ℕ) (b : List ℕ) wh
     AreAbove k (s ∷ ss) = (order k (key_of b (seen s)) ≡ Less) × AreAbove (key_of b (seen s)) ss
 
     low_next : (k key : List ℕ) → (k ≡ []) ⊎ (order k key ≡ Less) → (last_filled k key ≡ []) ⊎ ((last_filled k key ≡ key) ⊎ (order (last_filled k key) key ≡ Less))
-    low_next k key h1 = grind (arith, inl, inr)
+    low_next k key h1 = grind arith
 
     none_met : IsKeyOrder order → (k before : List ℕ) (ss : List S) (p : ℕ) → (k ≡ []) ⊎ ((k ≡ before) ⊎ (order k before ≡ Less)) → AreAbove before ss → Met (IsFall order) last_filled k (all_keyed b (map seen ss)) p → ⊥
     none_met laws k before [] p low h m = m
@@ -116,7 +116,7 @@ module _ {S : Type 0} (seen : S → Mark) (hinted : S → ℕ) (b : List ℕ) wh
     less_is o h1 = grind (arith, true≢false)
 
     above_by : Tells order hint → AreBytes b → (s t : S) → hinted s ≡ hint (key_of b (seen s)) → hinted t ≡ hint (key_of b (seen t)) → true ≡ is_above hinted seen order b s t → order (key_of b (seen s)) (key_of b (seen t)) ≡ Less
-    above_by h1 h2 s t h3 h4 h5 = grind (arith, bytes_between, false, is_lt, key_of, less_is, ltb-true, nat_lt, true)
+    above_by h1 h2 s t h3 h4 h5 = grind (arith, bytes_between, is_lt, less_is, ltb-true, nat_lt)
 
     above_from : Tells order hint → AreBytes b → (s : S) (ss : List S) → AreHintedBy hinted seen hint b (s ∷ ss)
         → ((k : ℕ) (d : S) → k + 1 < length (s ∷ ss) → true ≡ is_above hinted seen order b (get_or (s ∷ ss) k d) (get_or (s ∷ ss) (k + 1) d)) → AreAbove (key_of b (seen s)) ss

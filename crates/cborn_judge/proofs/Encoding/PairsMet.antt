@@ -94,7 +94,7 @@ module _ (order : List ℕ → List ℕ → Ordering) where
   falls_after k ((q, c ∷ cs, v) ∷ rows) p n f = both_ways ((λ i. (i.2, i.3)), (λ i. (n, (λ e. cc), i.0, i.1))) (falls_after (c ∷ cs) rows p (λ e. cc) f.1)
 
   falls_all : (rows : List Row) (p : ℕ) → AreFilled rows → MetFalls [] rows p ↔ HasFall order rows p
-  falls_all rows p h1 = grind (arith, falls_after, inl, inr, same)
+  falls_all rows p h1 = grind (arith, falls_after, same)
 
   falls_met : (b : List ℕ) (ms : List Mark) (rows : List Row) (p : ℕ) → map (row_of b) ms ≡ rows → AreFilled rows → Met (IsFall order) last_filled [] (all_keyed b ms) p ↔ HasFall order rows p
   falls_met b ms rows p e f = subst (λ z. Met (IsFall order) last_filled [] z p ↔ HasFall order rows p) (sym (keyed_rows b ms ∙ ap (map row_keyed) e)) (falls_all rows p f)

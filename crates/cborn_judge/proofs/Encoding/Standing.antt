@@ -46,10 +46,10 @@ module _ (order : List ℕ → List ℕ → Ordering) where
 
   -- a node whose encoding was written after n bytes: it is bad exactly if nothing was
   pub verdict : (t : Tree) (y x : List ℕ) (bad : Bool) → Coded order t x → (bad ≡ true → length (y ++ x) ≤ length y) → (bad ≡ false → length y < length (y ++ x)) → Verdict bad t x
-  verdict t y x bad h1 h2 h3 = grind (arith, false, inl, inr, length, length-append, some_bytes, true)
+  verdict t y x bad h1 h2 h3 = grind (arith, length-append, some_bytes)
 
   pub is_verdict : (t : Tree) (x : List ℕ) (bad : Bool) → Verdict bad t x → IsVerdict bad t
-  is_verdict t x bad h1 = grind (arith, false, true)
+  is_verdict t x bad h1 = grind arith
 
   -- ---- encodings one after another
 
@@ -70,13 +70,13 @@ module _ (order : List ℕ → List ℕ → Ordering) where
 
   -- one more, if none means nothing
   pub contents_more : (b bad : Bool) (ts : List Tree) (t : Tree) (y x : List ℕ) → (b ≡ false → AreEncodedAs order ts y) → Verdict bad t x → (b || bad) ≡ false → AreEncodedAs order (ts ++ t ∷ []) (y ++ x)
-  contents_more b bad ts t y x h1 h2 h3 = grind (arith, encoded_more, false)
+  contents_more b bad ts t y x h1 h2 h3 = grind (arith, encoded_more)
 
   counted : (n : ℕ) (ts us : List Tree) (y : List ℕ) → n ≡ length ts → AreEncodedAs order (ts ++ us) y → length y < 2 ^ 64 → (n + length us) % 2 ^ 64 ≡ length (ts ++ us)
   counted n ts us y e a l = omega (arith, e, as_long (ts ++ us) a.0 y a.1 a.3, l, length-append ts us)
 
   pub counted_more : (b bad : Bool) (n : ℕ) (ts : List Tree) (t : Tree) (y x : List ℕ) → (b ≡ false → AreEncodedAs order ts y × (n ≡ length ts)) → Verdict bad t x → length (y ++ x) < 2 ^ 64 → (b || bad) ≡ false → (n + 1) % 2 ^ 64 ≡ length (ts ++ t ∷ [])
-  counted_more b bad n ts t y x h1 h2 h3 h4 = grind (arith, counted, encoded_more, false)
+  counted_more b bad n ts t y x h1 h2 h3 h4 = grind (arith, counted, encoded_more)
 
   -- ---- the pairs of a map
 
@@ -316,7 +316,7 @@ module _ (order : List ℕ → List ℕ → Ordering) where
 
   pub stands_open : (outer : List Level) (l m : Level) (f : Partial) (o : Opening) (ms : List Mark) (y h : List ℕ) → Opens m o → IsFront o h → m.start ≡ length y → m.content ≡ length (y ++ h) → m.pairs ≡ length ms → m.count ≡ 0 → m.flawed ≡ false
       → Stands order outer l f ms y → Stands order (outer ++ l ∷ []) m (inside f o []) ms (y ++ h)
-  stands_open outer l m f o ms y h h1 h2 h3 h4 h5 h6 h7 h8 = grind (arith, a_map, a_tag, an_array, append-nil, in_chunks, length-append)
+  stands_open outer l m f o ms y h h1 h2 h3 h4 h5 h6 h7 h8 = grind (arith, append-nil, length-append)
 
   -- ---- a string in a string of indefinite length
 
@@ -335,7 +335,7 @@ module _ (order : List ℕ → List ℕ → Ordering) where
   chunk_joined (s ∷ ts) k t q w b e = ap (λ z. (chunk_of s).bytes ++ z) (chunk_joined ts k t q w b e) ∙ sym (append_assoc (chunk_of s).bytes (joined_chunks (chunks_of ts)) b)
 
   chunk_contents : (c bad : Bool) (ts : List Tree) (k : StringKind) (t : Tree) (q : ℕ) (w : Width) (b z x : List ℕ) → t ≡ string_tree q k w b → IsChunkContent bad k b x → (c ≡ false → z ≡ joined_chunks (chunks_of ts)) → (c || bad) ≡ false → z ++ x ≡ joined_chunks (chunks_of (ts ++ t ∷ []))
-  chunk_contents c bad ts k t q w b z x h1 h2 h3 h4 = grind (arith, chunk_joined, false)
+  chunk_contents c bad ts k t q w b z x h1 h2 h3 h4 = grind (arith, chunk_joined)
 
   pub stands_chunk : (outer : List Level) (l : Level) (f : Partial) (t : Tree) (ms : List Mark) (y x : List ℕ) (bad : Bool) → IsChunk f t bad x → Stands order outer l f ms y → Stands order outer (after l bad) (put f t) ms (y ++ x)
   stands_chunk outer l (inside f (in_chunks p k) ts) t ms y x bad c s =

@@ -27,7 +27,7 @@ no_bad_chunk (c ∷ cs) p u (inr h) = no_bad_chunk cs p u.1 h
 
 -- what means an item has nothing wrong with itself
 pub sound_node : (t : Tree) (v : Value) (p : ℕ) (r : InvalidReason) → Means t v → FlawAt t p r → ⊥
-sound_node t v p r h1 h2 = grind (arith, inl, inr, no_bad_chunk, no_repeat)
+sound_node t v p r h1 h2 = grind (arith, no_bad_chunk, no_repeat)
 
 -- a node within one that means an item means an item too
 mutual
@@ -67,7 +67,7 @@ sound_all ts vs m q i p r f = let u = inner_all q ts vs m i in sound_node q u.0 
 -- ---- what has no flaw means an item
 
 pub within_itself : (t : Tree) → Within t t
-within_itself t = grind (arith, inl)
+within_itself t = grind arith
 
 utf8_or_not : (b : List ℕ) → IsUtf8 b ⊎ (IsUtf8 b → ⊥)
 utf8_or_not b = by (is_utf8 b) refl

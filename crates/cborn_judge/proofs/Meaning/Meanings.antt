@@ -9,7 +9,7 @@ use Rattle.cborn_model.specs.declared.items.Item.{Item}
 -- ---- at most one
 
 pub number_once : (s : Bool) (n : ℕ) (a b : Value) → IsNumber s n a → IsNumber s n b → a ≡ b
-number_once s n a b h1 h2 = grind (arith, integer, one_magnitude)
+number_once s n a b h1 h2 = grind (arith, one_magnitude)
 
 pub string_once : (t : Tree) (b c : List ℕ) → IsByteString t b → IsByteString t c → b ≡ c
 string_once (Bytes p w d) b c h k = h ∙ sym k
@@ -53,10 +53,10 @@ mutual
 -- ---- byte strings
 
 pub string_means : (t : Tree) (b : List ℕ) → IsByteString t b → Means t (bytes b)
-string_means t b h1 = grind (arith, bytes)
+string_means t b h1 = grind arith
 
 pub means_string : (t : Tree) (b : List ℕ) → Means t (bytes b) → IsByteString t b
-means_string t b h1 = grind (arith, bytes, false, inl, inr, integer, true)
+means_string t b h1 = grind arith
 
 -- ---- how many bytes a node spells
 
@@ -88,13 +88,13 @@ pub content_fits : (t : Tree) (b : List ℕ) → IsByteString t b → Fits t →
 content_fits t b h1 h2 = grind (arith, joined_bytes)
 
 content_below : (t : Tree) (b : List ℕ) → IsByteString t b → Short (spelled t) → length b < 2 ^ 64
-content_below t b h1 h2 = grind (arith, chunk_bytes, ending, flat_map, head, length, length-append, length_of_chunks)
+content_below t b h1 h2 = grind (arith, length-append, length_of_chunks)
 
 pub number_valid : (s : Bool) (n : ℕ) (v : Value) → IsNumber s n v → n < 2 ^ 64 → IsProper v
 number_valid s n v h l = subst IsProper (sym h.4) (h.1, h.2, shortest_below h.0 n h.2 h.3 l)
 
 bignum_valid : (s : Bool) (t : Tree) (v : Value) → IsBignum s t v → Fits t → Short (spelled t) → IsProper v
-bignum_valid s t v h1 h2 h3 = grind (arith, content_below, content_fits, length, no_more)
+bignum_valid s t v h1 h2 h3 = grind (arith, content_below, content_fits, no_more)
 
 pub left : (x y : List ℕ) → Short (x ++ y) → Short x
 left x y l = omega (arith, length-append x y)
@@ -144,10 +144,10 @@ mutual
 -- ---- no deeper
 
 shallow_number : (s : Bool) (n : ℕ) (v : Value) → IsNumber s n v → n < 2 ^ 64 → value_depth v ≤ 0
-shallow_number s n v h1 h2 = grind (arith, big_endian, cond, integer, lt-ltb, value_depth)
+shallow_number s n v h1 h2 = grind (arith, lt-ltb)
 
 shallow_bignum : (s : Bool) (n : ℕ) (v : Value) → IsNumber s n v → value_depth v ≤ 1
-shallow_bignum s n v h1 = grind (arith, big_endian, cond, false, integer, ltb, true, value_depth)
+shallow_bignum s n v h1 = grind arith
 
 at_value : (v w : Value) (n : ℕ) → v ≡ w → value_depth w ≤ n → value_depth v ≤ n
 at_value v w n e h = let d : value_depth v ≡ value_depth w = ap value_depth e in omega arith
@@ -224,7 +224,7 @@ couples_built _ _ _ h m = absurd (search (h, m))
 
 -- once a loop has passed all
 pub array_built : (p : ℕ) (s : Size) (ns : List Tree) (i : ℕ) (items : List Item) (l : List Value) (v : Value) → length ns ≤ i → AllZip IsItemOf (take i ns) items → l ≡ map item_value items → Means (Items p s (trees ns)) v → array (values_of l) ≡ v
-array_built p s ns i items l v h1 h2 h3 h4 = grind (arith, array, take_all, values_built, values_of)
+array_built p s ns i items l v h1 h2 h3 h4 = grind (arith, take_all, values_built)
 
 pub map_built : (p : ℕ) (s : Size) (ns : List (Tree × Tree)) (i : ℕ) (pairs : List (Item × Item)) (l : List (Value × Value)) (v : Value) → length ns ≤ i → AllZip IsPairOf (take i ns) pairs → l ≡ map pair_value pairs → Means (Pairs p s (entries ns)) v → dict (pairs_of l) ≡ v
-map_built p s ns i pairs l v h1 h2 h3 h4 = grind (arith, couples_built, dict, pairs_of, take_all)
+map_built p s ns i pairs l v h1 h2 h3 h4 = grind (arith, couples_built, take_all)
