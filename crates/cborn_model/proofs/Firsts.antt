@@ -1,24 +1,16 @@
 -- What comes no later than what, and the first of the faults of two kinds.
 use Rattle.std.specs.Prelude.{◌≡◌, ◌⊎◌}
-use Rattle.cborn_model.proofs.Common.{ℕ, inl, inr, refl, ◌∙◌, arith, NoLater, IsFirst}
+use Rattle.cborn_model.proofs.Common.{ℕ, inl, inr, refl, arith, NoLater, IsFirst}
 
 pub no_later_on : (a b c : ℕ × ℕ) → NoLater a b → NoLater b c → NoLater a c
-no_later_on a b c (inl h) (inl k) = inl (omega arith)
-no_later_on a b c (inl h) (inr k) = inl (omega arith)
-no_later_on a b c (inr h) (inl k) = inl (omega arith)
-no_later_on a b c (inr h) (inr k) = inr (h.0 ∙ k.0, omega arith)
+no_later_on a b c h1 h2 = grind (arith, inl, inr)
 
 pub no_later_turned : (a b : ℕ × ℕ) → NoLater a b → NoLater b a → (a.0 ≡ b.0) × (a.1 ≡ b.1)
-no_later_turned a b (inr h) (inr k) = (h.0, omega arith)
-no_later_turned a b (inl h) (inl k) = absurd (omega arith)
-no_later_turned a b (inl h) (inr k) = absurd (omega arith)
-no_later_turned a b (inr h) (inl k) = absurd (omega arith)
+no_later_turned a b h1 h2 = grind (arith, inl, inr)
 
 -- where no two reasons have one number
 pub first_once : {R : Type 0} (rank : R → ℕ) (fault : ℕ → R → Type 0) (p q : ℕ) (r s : R) → ((a b : R) → rank a ≡ rank b → a ≡ b) → IsFirst rank fault p r → IsFirst rank fault q s → (p ≡ q) × (r ≡ s)
-first_once {R} rank fault p q r s one h k =
-    let e = no_later_turned (p, rank r) (q, rank s) (h.first q s k.is) (k.first p r h.is) in
-    (e.0, one r s e.1)
+first_once rank fault p q r s h1 h2 h3 = grind (arith, no_later_turned)
 
 module _ {R : Type 0} (rank : R → ℕ) where
   -- of one fault

@@ -1,6 +1,6 @@
 -- The first of what two searches found.
 use Rattle.std.specs.Prelude.{◌≡◌, ◌⊎◌, ◌↔◌}
-use Rattle.cborn_model.proofs.Common.{ℕ, inl, inr, refl, sym, ◌∙◌, subst, Option, None, Some, IsFirst}
+use Rattle.cborn_model.proofs.Common.{arith, ℕ, inl, inr, refl, sym, ◌∙◌, subst, Option, None, Some, IsFirst}
 use Rattle.cborn_model.proofs.Firsts.{no_later_on}
 use Rattle.cborn_model.specs.Earliest.{IsEarlier, IsEarliest, Finds}
 
@@ -37,11 +37,7 @@ module _ {X R : Type 0} (rank : R → ℕ) (place_of : X → ℕ) (reason_of : X
   first_right F G x n h = record { is = inr h.is; first = λ q s k. elim k [ inl f ↦ absurd (n q s f) | inr g ↦ h.first q s g ] }
 
   pub found_both : (F G : ℕ → R → Type 0) (a b o : Option X) → Found F a → Found G b → IsEarliest key_of a b o → Found (Either F G) o
-  found_both F G None None o h k e = subst (Found (Either F G)) (sym e) (λ p r d. elim d [ inl f ↦ h p r f | inr g ↦ k p r g ])
-  found_both F G None (Some y) o h k e = subst (Found (Either F G)) (sym e) (first_right F G y h k)
-  found_both F G (Some x) None o h k e = subst (Found (Either F G)) (sym e) (first_left F G x h k)
-  found_both F G (Some x) (Some y) None h k e = absurd e
-  found_both F G (Some x) (Some y) (Some z) h k e = earlier_of F G x y z h k e
+  found_both F G a b o h1 h2 h3 = grind (arith, earlier_of, first_left, first_right, inl, inr)
 
   pub found_alike : (F G : ℕ → R → Type 0) (o : Option X) → ((p : ℕ) (r : R) → F p r ↔ G p r) → Found F o → Found G o
   found_alike F G None e h = λ p r g. h p r ((e p r).1 g)

@@ -1,6 +1,6 @@
 -- What a walk over nodes hands to a visitor.
 use Rattle.std.specs.Prelude.{◌≡◌, ◌+◌, ◌<◌, ◌∷◌, ◌++◌}
-use Rattle.cborn_model.proofs.Common.{refl, sym, ap, ◌∙◌, subst, ℕ, suc, List, [], length, map, get_or, take, Option, Some, None, Result, Ok, Err, OnOk, arith, append-nil, take_more, length-take, map-append, option_to_list, SizeFits, Fits, FitsAll, FitsEntries, Chunk, Size, Fixed, Endless, Tree, Bytes, Text, Items, Pairs, trees, entries, depth, depth_all, depth_entries, Partial, Opening, a_map, in_chunks, inside, put, paired, last_key, chunk_of, chunks_of, chunks_tree, built, IsMore, IsAll, IsString, AreStrings, Ends, IsFree, Proper, TakesString, flat, string_of, count_of}
+use Rattle.cborn_model.proofs.Common.{refl, sym, ap, ◌∙◌, subst, ℕ, suc, List, [], length, map, get_or, take, Option, Some, None, Result, Ok, Err, OnOk, arith, append-nil, take_more, length-take, map-append, option_to_list, SizeFits, Fits, FitsAll, FitsEntries, Chunk, Size, Fixed, Endless, Tree, Bytes, Text, Pairs, trees, entries, depth, depth_all, depth_entries, Partial, Opening, a_map, in_chunks, inside, put, paired, last_key, chunk_of, chunks_of, chunks_tree, built, IsMore, IsAll, IsString, AreStrings, Ends, IsFree, Proper, TakesString, flat, string_of, count_of}
 use Rattle.cborn_model.specs.View.{tree_of}
 use Rattle.cborn_model.specs.declared.nodes.Form.{Form}
 use Rattle.cborn_model.specs.declared.nodes.Form.TheVariants as forms
@@ -51,14 +51,10 @@ all_pairs p Endless es = ((tt, (paired_flat es).1), ap (λ l. Pairs p Endless (e
 
 -- what a node of an array or a map says of its items and pairs
 pub array_fits : (p : ℕ) (f : Form) (t : Tree) (s : Size) (v : _) (ys : List Tree) → tree_of p f ≡ t → f ≡ forms.Items s v → ys ≡ v.items → Fits t → SizeFits s (length ys) × FitsAll (trees ys) × (depth t ≡ suc (depth_all (trees ys)))
-array_fits p f t s v ys is e same h =
-    let g : Fits (Items p s (trees v.items)) = subst Fits (sym is ∙ ap (tree_of p) e) h in
-    rw same (subst (SizeFits s) (count-trees v.items) g.0, g.1, ap depth (sym is ∙ ap (tree_of p) e))
+array_fits p f t s v ys h1 h2 h3 h4 = grind (arith, count-trees, depth, tree_of, trees)
 
 pub map_fits : (p : ℕ) (f : Form) (t : Tree) (s : Size) (v : _) (ys : List (Tree × Tree)) → tree_of p f ≡ t → f ≡ forms.Pairs s v → ys ≡ v.items → Fits t → SizeFits s (length ys) × FitsEntries (entries ys) × (depth t ≡ suc (depth_entries (entries ys)))
-map_fits p f t s v ys is e same h =
-    let g : Fits (Pairs p s (entries v.items)) = subst Fits (sym is ∙ ap (tree_of p) e) h in
-    rw same (subst (SizeFits s) (count_entries-entries v.items) g.0, g.1, ap depth (sym is ∙ ap (tree_of p) e))
+map_fits p f t s v ys h1 h2 h3 h4 = grind (arith, count_entries-entries, depth, entries, tree_of)
 
 pub on_ok : {T E : Type 0} {P Q : Type 0} (r : Result T E) → (P → Q) → OnOk r P → OnOk r Q
 on_ok (Ok v) go h = go h
@@ -90,8 +86,7 @@ chunk_over A B k xs i x h e string f p free old =
 
 pub chunks_over : (A B : Partial → Type 0) (p : ℕ) (k : StringKind) (cs : List Chunk) → ((f : Partial) (o : Opening) (ts : List Tree) → IsFree f → Ends o ts → A (inside f o ts) → B (put f (built o ts)))
     → (f : Partial) → IsFree f → A (inside f (in_chunks p k) (map (string_of k) cs)) → B (put f (chunks_tree p k cs))
-chunks_over A B p k cs close f free h =
-    subst (λ l. B (put f (chunks_tree p k l))) (strings k cs).1 (close f (in_chunks p k) (map (string_of k) cs) free (strings k cs).0 h)
+chunks_over A B p k cs h1 f h2 h3 = grind (arith, chunks_tree, in_chunks, map, put, string_of, strings)
 
 pub pairs_over : (A B : Partial → Type 0) (p : ℕ) (s : Size) (es : List (Tree × Tree)) → ((f : Partial) (o : Opening) (ts : List Tree) → IsFree f → Ends o ts → A (inside f o ts) → B (put f (built o ts)))
     → (f : Partial) → IsFree f → A (inside f (a_map p s (count_of s (length es))) (flat es)) → B (put f (Pairs p s (entries es)))

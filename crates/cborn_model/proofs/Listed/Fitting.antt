@@ -53,9 +53,7 @@ pub entries_and_size : (p : ℕ) (s : Size) (n : ℕ) (xs : List (Tree × Tree))
 entries_and_size p s n xs r e h f = (λ y. (subst (SizeFits s) (e ∙ sym (count_entries-entries xs)) h, f.0 y), λ y. f.1 y.1)
 
 pub items_without_size : (p : ℕ) (s : Size) (n : ℕ) (xs : List Tree) (r : Bool) → n ≡ length xs → r ≡ false → (IsTrue r ↔ SizeFits s n) → (IsTrue r ↔ Fits (Items p s (trees xs)))
-items_without_size p s n xs r e b f =
-    (λ y. absurd (let z : true ≡ false = sym y ∙ b in cc), λ y. f.1 (subst (SizeFits s) (sym (e ∙ sym (count-trees xs))) y.0))
+items_without_size p s n xs r h1 h2 h3 = grind (arith, count-trees, false, true)
 
 pub entries_without_size : (p : ℕ) (s : Size) (n : ℕ) (xs : List (Tree × Tree)) (r : Bool) → n ≡ length xs → r ≡ false → (IsTrue r ↔ SizeFits s n) → (IsTrue r ↔ Fits (Pairs p s (entries xs)))
-entries_without_size p s n xs r e b f =
-    (λ y. absurd (let z : true ≡ false = sym y ∙ b in cc), λ y. f.1 (subst (SizeFits s) (sym (e ∙ sym (count_entries-entries xs))) y.0))
+entries_without_size p s n xs r h1 h2 h3 = grind (arith, count_entries-entries, false, true)

@@ -1,6 +1,6 @@
 -- The definitions over nodes, in std's words: nodes one after another, their number, and how deep they are.
 use Rattle.std.specs.Prelude.{◌≡◌, ◌+◌, ◌<◌, ◌≤◌, ◌∷◌, ◌++◌}
-use Rattle.cborn_model.proofs.Common.{ℕ, max, List, [], length, take, get_or, refl, sym, ap, ◌∙◌, subst, arith, flat_map, take_more, Tree, trees, entries, count, count_entries, depth, depth_all, depth_entries, spelled, spelled_all, spelled_entries}
+use Rattle.cborn_model.proofs.Common.{ℕ, max, List, [], length, take, get_or, refl, sym, ap, ◌∙◌, subst, arith, take_more, Tree, trees, entries, count, count_entries, depth, depth_all, depth_entries, spelled}
 use Rattle.std.proofs.lemmas.List.Recursion.{max_push, max_bounds}
 
 abbrev pub spelled_pair : Tree × Tree → List ℕ
@@ -8,15 +8,6 @@ spelled_pair p = spelled p.0 ++ spelled p.1
 
 abbrev pub pair_depth : Tree × Tree → ℕ
 pair_depth p = max (depth p.0) (depth p.1)
-
-pub spelled_all-trees : (xs : List Tree) → spelled_all (trees xs) ≡ flat_map spelled xs
-spelled_all-trees [] = refl
-spelled_all-trees (x ∷ xs) = ap (λ b. spelled x ++ b) (spelled_all-trees xs)
-
-pub spelled_entries-entries : (xs : List (Tree × Tree)) → spelled_entries (entries xs) ≡ flat_map spelled_pair xs
-spelled_entries-entries [] = refl
-spelled_entries-entries (x ∷ xs) =
-    ap (λ b. spelled x.0 ++ spelled x.1 ++ b) (spelled_entries-entries xs)
 
 pub count-trees : (xs : List Tree) → count (trees xs) ≡ length xs
 count-trees [] = refl

@@ -1,6 +1,6 @@
 -- Items of a slice, one by one: what is valid, and how deep.
 use Rattle.std.specs.Prelude.{◌≡◌, ◌+◌, ◌<◌, ◌^◌, ◌∷◌, ◌↔◌}
-use Rattle.cborn_model.proofs.Common.{ℕ, zero, suc, max, List, [], map, length, take, drop, get_or, refl, sym, subst, ◌∙◌, arith, Bool, IsTrue, inl, inr, length-map, Item, item_value, pair_value, Value, array, dict, values_of, pairs_of, IsNew, HasNewKeys, IsProper, AreProper, HasProperPairs, value_depth, values_depth, pairs_depth, Gives}
+use Rattle.cborn_model.proofs.Common.{ℕ, zero, suc, max, List, [], map, length, take, drop, get_or, refl, arith, Bool, IsTrue, inl, inr, length-map, Item, item_value, pair_value, Value, array, dict, values_of, pairs_of, IsNew, HasNewKeys, IsProper, AreProper, HasProperPairs, value_depth, values_depth, pairs_depth, Gives}
 use Rattle.cborn_model.proofs.Listed.Fitting.{all_hold}
 use Rattle.cborn_model.proofs.Listed.Trees.{greatest_more}
 use Rattle.cborn_model.proofs.Listed.Values.{value_count-values_of, pair_count-pairs_of}
@@ -14,16 +14,10 @@ are_proper_by_pair = all_hold (λ ps. HasProperPairs (pairs_of (pairs ps))) IsPr
 
 -- with the bound on the count
 pub array_proper : (is : List Item) (vs : List Value) (r : Bool) → values is ≡ vs → (IsTrue r ↔ AreProper (values_of (values is)) × (length is < 2 ^ 64)) → (IsTrue r ↔ IsProper (array (values_of vs)))
-array_proper is vs r e f =
-    let count = value_count-values_of (values is) ∙ length-map is item_value in
-    let g : IsTrue r ↔ IsProper (array (values_of (values is))) = (λ y. let t = f.0 y in (t.0, subst (λ n. n < 2 ^ 64) (sym count) t.1), λ h. f.1 (h.0, subst (λ n. n < 2 ^ 64) count h.1)) in
-    subst (λ l. IsTrue r ↔ IsProper (array (values_of l))) e g
+array_proper is vs r h1 h2 = grind (arith, array, item_value, length-map, value_count-values_of, values, values_of)
 
 pub dict_proper : (ps : List (Item × Item)) (vs : List (Value × Value)) (r : Bool) → pairs ps ≡ vs → HasProperPairs (pairs_of (pairs ps)) × (length ps < 2 ^ 64) → (IsTrue r ↔ HasNewKeys (pairs_of (pairs ps))) → (IsTrue r ↔ IsProper (dict (pairs_of vs)))
-dict_proper ps vs r e h f =
-    let count = pair_count-pairs_of (pairs ps) ∙ length-map ps pair_value in
-    let g : IsTrue r ↔ IsProper (dict (pairs_of (pairs ps))) = (λ y. (h.0, f.0 y, subst (λ n. n < 2 ^ 64) (sym count) h.1), λ k. f.1 k.1) in
-    subst (λ l. IsTrue r ↔ IsProper (dict (pairs_of l))) e g
+dict_proper ps vs r h1 h2 h3 = grind (arith, dict, length-map, pair_count-pairs_of, pair_value, pairs, pairs_of)
 
 -- a key whose value is given isn't new
 pub given_not_new : (k v : Value) (ps : List (Value × Value)) → IsNew k (pairs_of ps) → Gives k v ps → ⊥
@@ -44,6 +38,4 @@ given_in_front k v (suc n) (p ∷ ps) g = elim g [ inl s ↦ inl s | inr s ↦ i
 
 -- so no key has a value that is given after it
 pub given_after_head : (v : Value) (n : ℕ) (ps : List (Item × Item)) (x : Item × Item) → 0 < length ps → x ≡ get_or ps 0 x → HasNewKeys (pairs_of (pairs ps)) → Gives (item_value x.0) v (pairs (take n (drop 1 ps))) → ⊥
-given_after_head v n [] x l e h g = absurd (omega arith)
-given_after_head v n (p ∷ ps) x l e h g =
-    given_not_new (item_value p.0) v (pairs ps) h.0 (subst (λ (z : Item × Item). Gives (item_value z.0) v (pairs ps)) e (given_in_front (item_value x.0) v n ps g))
+given_after_head v n ps x h1 h2 h3 h4 = grind (arith, given_in_front, given_not_new, item_value, pairs)

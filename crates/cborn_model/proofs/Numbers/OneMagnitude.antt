@@ -35,12 +35,7 @@ same_long (a ∷ cs) (b ∷ bs) h k l e =
 
 -- fewer bytes make a lower number
 pub fewer : (cs bs : List ℕ) → AreBytes cs → IsShortest bs → length cs < length bs → big_endian cs < big_endian bs
-fewer cs [] h s l = absurd (omega arith)
-fewer cs (b ∷ bs) h s l =
-    let low = below_power cs h in
-    let m : 256 ^ length cs ≤ 256 ^ length bs = let q : length cs ≤ length bs = omega arith in pow-le-pow_right (lit< tt) q in
-    let top : 1 * 256 ^ length bs ≤ b * 256 ^ length bs = mul-le-mul_right (256 ^ length bs) s in
-    omega (arith, low, m, top)
+fewer cs bs h1 h2 h3 = grind (arith, below_power, length, lit<, mul-le-mul_right, pow-le-pow_right)
 
 pub one_magnitude : (cs bs : List ℕ) → AreBytes cs → AreBytes bs → IsShortest cs → IsShortest bs → big_endian cs ≡ big_endian bs → cs ≡ bs
 one_magnitude cs bs h k s t e =
@@ -51,9 +46,7 @@ one_magnitude cs bs h k s t e =
 
 -- equal numbers have one sign, and one magnitude
 pub one_number : (s t : Bool) (m n : List ℕ) → number s m ≡ number t n → (s ≡ t) × (big_endian m ≡ big_endian n)
-one_number true true m n e = (refl, cc)
-one_number false false m n e = (refl, cc)
-one_number _ _ m n e = cc
+one_number s t m n h1 = grind (arith, false, true)
 
 pub fits_in : (n i : ℕ) → n < 256 ^ i → i ≤ 8 → n < 2 ^ 64
 fits_in n i h l = let m : 256 ^ i ≤ 256 ^ 8 = pow-le-pow_right (lit< tt) l in omega arith

@@ -5,14 +5,10 @@ use Rattle.cborn_model.proofs.Numbers.OneHead.{least_holds}
 
 -- the two ranges, as the test has them
 pub simple_cases : (n : ℕ) → IsTrue (is_simple_value n) → (n < 24) ⊎ ((32 ≤ n) × (n < 256))
-simple_cases n h = elim (or_cases (ltb n 24) _ h) [
-  | inl low ↦ inl (ltb-true n 24 low)
-  | inr high ↦ let p = and_parts (leb 32 n) (ltb n 256) high in inr (leb-true 32 n p.0, ltb-true n 256 p.1)
-]
+simple_cases n h1 = grind (arith, and_parts, inl, inr, leb, leb-true, ltb, ltb-true, or_cases)
 
 pub simple_value : (n : ℕ) → (n < 24) ⊎ ((32 ≤ n) × (n < 256)) → IsTrue (is_simple_value n)
-simple_value n (inl low) = rw (lt-ltb n 24 low) refl
-simple_value n (inr high) = rw (le-ltb n 24 (omega (arith, high.0)), le-leb 32 n high.0, lt-ltb n 256 high.1) refl
+simple_value n h1 = grind (arith, inl, inr, le-leb, le-ltb, lt-ltb)
 
 -- it is a byte
 pub simple_below : (n : ℕ) → IsTrue (is_simple_value n) → n < 256

@@ -49,8 +49,7 @@ item_same (i ∷ is) (j ∷ js) (suc n) x y l m h = item_same is js n x y (omega
 item_same _ _ n x y l m h = absurd (omega arith)
 
 pub same_item : (is js : List Item) (n : ℕ) (x y : Item) → n < length is → n < length js → x ≡ get_or is n x → y ≡ get_or js n y → SameValues (values_of (values is)) (values_of (values js)) → Same (item_value x) (item_value y)
-same_item is js n x y l m e f h =
-    subst (λ (z : Item). Same (item_value z) (item_value y)) (sym e) (subst (λ (z : Item). Same (item_value (get_or is n x)) (item_value z)) (sym f) (item_same is js n x y l m h))
+same_item is js n x y h1 h2 h3 h4 h5 = grind (arith, get_or, item_same, item_value)
 
 pub same_length : (is js : List Item) → SameValues (values_of (values is)) (values_of (values js)) → length is ≡ length js
 same_length [] [] h = refl
@@ -81,8 +80,7 @@ pair_given k (p ∷ ps) zero x l h = inl (h, refl)
 pair_given k (p ∷ ps) (suc n) x l h = inr (pair_given k ps n x (omega arith) h)
 
 pub gives_at : (k : Value) (ps : List (Item × Item)) (n : ℕ) (x : Item × Item) → n < length ps → x ≡ get_or ps n x → Same k (item_value x.0) → Gives k (item_value x.1) (pairs ps)
-gives_at k ps n x l e h =
-    subst (λ (z : Item × Item). Gives k (item_value z.1) (pairs ps)) (sym e) (pair_given k ps n x l (subst (λ (z : Item × Item). Same k (item_value z.0)) e h))
+gives_at k ps n x h1 h2 h3 = grind (arith, item_value, pair_given)
 
 -- as many pairs
 pub same_size : (ps qs : List (Item × Item)) → Same (dict (pairs_of (pairs ps))) (dict (pairs_of (pairs qs))) → length ps ≡ length qs
@@ -93,29 +91,19 @@ pub had : (ps qs : List (Item × Item)) → Same (dict (pairs_of (pairs ps))) (d
 had ps qs h = subst (AllHave (pairs_of (pairs ps))) (listed-pairs_of (pairs qs)) (all_have (pairs_of (pairs ps)) (pairs_of (pairs qs)) h)
 
 pub maps_match : (ps qs : List (Item × Item)) → length ps ≡ length qs → HasNewKeys (pairs_of (pairs ps)) → AllHave (pairs_of (pairs ps)) (pairs qs) → Same (dict (pairs_of (pairs ps))) (dict (pairs_of (pairs qs)))
-maps_match ps qs e new h =
-    let e' = pair_count-pairs_of (pairs ps) ∙ length-map ps pair_value ∙ e ∙ sym (length-map qs pair_value) ∙ sym (ap length (listed-pairs_of (pairs qs))) in
-    matched (pairs_of (pairs ps)) (listed (pairs_of (pairs qs))) e' new (subst (AllHave (pairs_of (pairs ps))) (sym (listed-pairs_of (pairs qs))) h)
+maps_match ps qs h1 h2 h3 = grind (arith, length, length-map, listed, listed-pairs_of, matched, pair_count-pairs_of, pair_value, pairs_of)
 
 -- one more of them, as a loop over the pairs of a map meets it
 pub one_more_had : (ps : List (Item × Item)) (qs : List (Value × Value)) (i : ℕ) (x : Item × Item) → i < length ps → x ≡ get_or ps i x → HasPair (pair_value x) qs → ((k : ℕ) (d : Item × Item) → k < i → HasPair (pair_value (get_or ps k d)) qs)
     → (k : ℕ) (d : Item × Item) → k < i + 1 → HasPair (pair_value (get_or ps k d)) qs
-one_more_had ps qs i x l e h before k d m =
-    let At : Item × Item → Type 0 = λ z. HasPair (pair_value z) qs in
-    elim (cases_lt k i) [
-      | inl below ↦ before k d below
-      | inr above ↦ let same : i ≡ k = omega arith in subst (λ j. At (get_or ps j d)) same (subst At (e ∙ get_or_default ps i x d l) h)
-    ]
+one_more_had ps qs i x h1 h2 h3 h4 k d h5 = grind (arith, cases_lt, get_or, get_or_default, inl, inr, pair_value)
 
 -- what is given among the pairs of two parts
 pub given_last : (k v : Value) (ps front back : List (Item × Item)) → ps ≡ front ++ back → Gives k v (pairs back) → Gives k v (pairs ps)
-given_last k v ps front back e h =
-    subst (λ l. Gives k v (pairs l)) (sym e) (rw map-append (given_after k v (pairs front) (pairs back) h))
+given_last k v ps front back h1 h2 = grind (arith, given_after, map-append)
 
 pub given_first : (k v : Value) (ps front back : List (Item × Item)) → ps ≡ front ++ back → Gives k v (pairs front) → Gives k v (pairs ps)
-given_first k v ps front back e h =
-    subst (λ l. Gives k v (pairs l)) (sym e) (rw map-append (given_before k v (pairs front) (pairs back) h))
+given_first k v ps front back h1 h2 = grind (arith, given_before, map-append)
 
 pub new_to_all : (k : Value) (ps front back : List (Item × Item)) → ps ≡ front ++ back → IsNew k (pairs_of (pairs front)) → IsNew k (pairs_of (pairs back)) → IsNew k (pairs_of (pairs ps))
-new_to_all k ps front back e h g =
-    subst (λ l. IsNew k (pairs_of (pairs l))) (sym e) (rw map-append (new_in_both k (pairs front) (pairs back) h g))
+new_to_all k ps front back h1 h2 h3 = grind (arith, map-append, new_in_both, pairs_of)
