@@ -1,6 +1,6 @@
 -- After a sort the repeated keys are those that tie with their neighbour.
 use Rattle.std.specs.Prelude.{◌≡◌, ◌<◌, ◌⊎◌, ◌∷◌, ◌↔◌, ◌&&◌}
-use Rattle.cborn_judge.proofs.Common.{ℕ, suc, inl, inr, List, [], refl, sym, ap, ◌∙◌, subst, arith, true, false, Bool, true≢false, add-one, IsPermutation, Ordering, Less, is_lt, eqb, ⊤, nat_cmp, ordering_then, ordering_reverse, AllByRecursion, IsSortedBy, IsPermutation-sym, eqb-true, eq-eqb, cases_eq, IsRepeated, IsIn, are_in_moved, Value, IsKeyOrder, Tree, Entries, no_entry, entry, Means, at_member}
+use Rattle.cborn_judge.proofs.Common.{ℕ, suc, inl, inr, List, [], refl, sym, ap, ◌∙◌, subst, arith, true, false, Bool, true≢false, add-one, IsPermutation, Ordering, Less, is_lt, eqb, ⊤, nat_cmp, ordering_then, AllByRecursion, IsSortedBy, IsPermutation-sym, eqb-true, eq-eqb, cases_eq, IsRepeated, IsIn, are_in_moved, Value, IsKeyOrder, Tree, Entries, no_entry, entry, Means, at_member}
 use Rattle.std.specs.List.{IsDistinct}
 use Rattle.cborn_det.proofs.Rising.{never_both, never_itself}
 use Rattle.std.proofs.lemmas.Map.Keys.{IsDistinct-IsPermutation, ge_from_not_lt}

@@ -3,10 +3,10 @@ use Rattle.std.specs.Prelude.{◌≡◌, ◌⊎◌}
 use Rattle.cborn_model.proofs.Common.{ℕ, inl, inr, refl, arith, NoLater, IsFirst}
 
 pub no_later_on : (a b c : ℕ × ℕ) → NoLater a b → NoLater b c → NoLater a c
-no_later_on a b c h1 h2 = grind (arith, inl, inr)
+no_later_on a b c h1 h2 = grind arith
 
 pub no_later_turned : (a b : ℕ × ℕ) → NoLater a b → NoLater b a → (a.0 ≡ b.0) × (a.1 ≡ b.1)
-no_later_turned a b h1 h2 = grind (arith, inl, inr)
+no_later_turned a b h1 h2 = grind arith
 
 -- where no two reasons have one number
 pub first_once : {R : Type 0} (rank : R → ℕ) (fault : ℕ → R → Type 0) (p q : ℕ) (r s : R) → ((a b : R) → rank a ≡ rank b → a ≡ b) → IsFirst rank fault p r → IsFirst rank fault q s → (p ≡ q) × (r ≡ s)

@@ -37,7 +37,7 @@ module _ {X R : Type 0} (rank : R → ℕ) (place_of : X → ℕ) (reason_of : X
   first_right F G x n h = record { is = inr h.is; first = λ q s k. elim k [ inl f ↦ absurd (n q s f) | inr g ↦ h.first q s g ] }
 
   pub found_both : (F G : ℕ → R → Type 0) (a b o : Option X) → Found F a → Found G b → IsEarliest key_of a b o → Found (Either F G) o
-  found_both F G a b o h1 h2 h3 = grind (arith, earlier_of, first_left, first_right, inl, inr)
+  found_both F G a b o h1 h2 h3 = grind (arith, earlier_of, first_left, first_right)
 
   pub found_alike : (F G : ℕ → R → Type 0) (o : Option X) → ((p : ℕ) (r : R) → F p r ↔ G p r) → Found F o → Found G o
   found_alike F G None e h = λ p r g. h p r ((e p r).1 g)

@@ -51,10 +51,10 @@ all_pairs p Endless es = ((tt, (paired_flat es).1), ap (λ l. Pairs p Endless (e
 
 -- what a node of an array or a map says of its items and pairs
 pub array_fits : (p : ℕ) (f : Form) (t : Tree) (s : Size) (v : _) (ys : List Tree) → tree_of p f ≡ t → f ≡ forms.Items s v → ys ≡ v.items → Fits t → SizeFits s (length ys) × FitsAll (trees ys) × (depth t ≡ suc (depth_all (trees ys)))
-array_fits p f t s v ys h1 h2 h3 h4 = grind (arith, count-trees, depth, tree_of, trees)
+array_fits p f t s v ys h1 h2 h3 h4 = grind (arith, count-trees)
 
 pub map_fits : (p : ℕ) (f : Form) (t : Tree) (s : Size) (v : _) (ys : List (Tree × Tree)) → tree_of p f ≡ t → f ≡ forms.Pairs s v → ys ≡ v.items → Fits t → SizeFits s (length ys) × FitsEntries (entries ys) × (depth t ≡ suc (depth_entries (entries ys)))
-map_fits p f t s v ys h1 h2 h3 h4 = grind (arith, count_entries-entries, depth, entries, tree_of)
+map_fits p f t s v ys h1 h2 h3 h4 = grind (arith, count_entries-entries)
 
 pub on_ok : {T E : Type 0} {P Q : Type 0} (r : Result T E) → (P → Q) → OnOk r P → OnOk r Q
 on_ok (Ok v) go h = go h
@@ -86,7 +86,7 @@ chunk_over A B k xs i x h e string f p free old =
 
 pub chunks_over : (A B : Partial → Type 0) (p : ℕ) (k : StringKind) (cs : List Chunk) → ((f : Partial) (o : Opening) (ts : List Tree) → IsFree f → Ends o ts → A (inside f o ts) → B (put f (built o ts)))
     → (f : Partial) → IsFree f → A (inside f (in_chunks p k) (map (string_of k) cs)) → B (put f (chunks_tree p k cs))
-chunks_over A B p k cs h1 f h2 h3 = grind (arith, chunks_tree, in_chunks, map, put, string_of, strings)
+chunks_over A B p k cs h1 f h2 h3 = grind (arith, strings)
 
 pub pairs_over : (A B : Partial → Type 0) (p : ℕ) (s : Size) (es : List (Tree × Tree)) → ((f : Partial) (o : Opening) (ts : List Tree) → IsFree f → Ends o ts → A (inside f o ts) → B (put f (built o ts)))
     → (f : Partial) → IsFree f → A (inside f (a_map p s (count_of s (length es))) (flat es)) → B (put f (Pairs p s (entries es)))

@@ -1,6 +1,6 @@
 -- A tidy node spells the encoding of what it means, and what spells an encoding is tidy.
 use Rattle.std.specs.Prelude.{◌≡◌, ◌<◌, ◌≤◌, ◌^◌, ◌∷◌, ◌++◌}
-use Rattle.cborn_judge.proofs.Common.{ℕ, ⊤, inl, inr, List, [], length, refl, sym, ap, ◌∙◌, subst, arith, true, false, Bool, append_assoc, append-nil, Ordering, AllByRecursion, cases_lt, IsPermutation-refl, IsLoose, Value, Values, Couples, no_values, value, no_pairs, pair, value_count, pair_count, big_endian, AreBytes, IsShortest, IsProper, AreProper, HasProperPairs, Width, Major, Unsigned, Negative, ByteString, TextString, Array, Map, Tag, Other, WidthFits, information, following, least, IsLeastHead, Given, EndlessArgument, code, head, IsString, IsInteger, Det, DetValues, DetPairs, Entry, keys, joined, major_of, bignum_tag, Rising, Tree, Uint, Nint, Bytes, Text, ByteChunks, TextChunks, Items, Pairs, Tagged, Simple, Trees, no_item, more, Entries, no_entry, entry, count, count_entries, Size, Fixed, Endless, SizeFits, spelled, spelled_all, spelled_entries, Fits, FitsAll, FitsEntries, IsNumber, IsByteString, IsBignum, Means, AllMean, EntriesMean, spelled_pairs, SizeIsTidy, IsTidy, AllTidy, EntriesTidy, simple_fits, string_one, one_magnitude, large, fits_in, below_power, no_more, counted, counted_pairs, holds_below}
+use Rattle.cborn_judge.proofs.Common.{ℕ, ⊤, inl, inr, List, [], length, refl, sym, ap, ◌∙◌, subst, arith, true, false, Bool, append_assoc, append-nil, Ordering, AllByRecursion, cases_lt, IsPermutation-refl, IsLoose, Value, Values, Couples, no_values, value, no_pairs, pair, value_count, pair_count, big_endian, AreBytes, IsShortest, IsProper, AreProper, HasProperPairs, Width, Major, Unsigned, Negative, ByteString, TextString, Array, Map, Tag, Other, WidthFits, least, IsLeastHead, Given, EndlessArgument, code, head, IsString, IsInteger, Det, DetValues, DetPairs, Entry, keys, joined, major_of, bignum_tag, Rising, Tree, Uint, Nint, Bytes, Text, ByteChunks, TextChunks, Items, Pairs, Tagged, Simple, Trees, no_item, more, Entries, no_entry, entry, count, count_entries, Size, Fixed, Endless, SizeFits, spelled, spelled_all, spelled_entries, Fits, FitsAll, FitsEntries, IsNumber, IsByteString, IsBignum, Means, AllMean, EntriesMean, spelled_pairs, SizeIsTidy, IsTidy, AllTidy, EntriesTidy, simple_fits, string_one, one_magnitude, large, fits_in, below_power, no_more, counted, counted_pairs, holds_below}
 use Rattle.cborn_model.proofs.Numbers.OneHead.{append_same, low_bits_below}
 use Rattle.cborn_det.proofs.Reading.{IsEntry, IsLarge, Content, Meets, seen, meets, alone}
 use Rattle.cborn_judge.proofs.Meaning.Meanings.{number_valid}

@@ -1,6 +1,6 @@
 -- The flaws and the defects of one more whole node.
 use Rattle.std.specs.Prelude.{◌≡◌, ◌⊎◌, ◌∷◌, ◌++◌, ◌↔◌}
-use Rattle.cborn_judge.proofs.Common.{arith, ℕ, inl, inr, List, [], length, Width, IsUtf8, IsLong, map, refl, sym, subst, Bool, true, false, Ordering, Option, None, AllZip, Chunk, Size, StringKind, OfBytes, OfText, InvalidReason, NotUtf8, DefectReason, LongHead, EndlessLength, Means, flaw_rank, defect_rank, Tree, ByteChunks, TextChunks, Pairs, Tagged, trees, entries, Value, Partial, top, inside, Opening, an_array, a_map, a_tag, in_chunks, put, built, Ends, paired, chunks_of, chunks_tree, ended_size, Within, WithinAll, WithinEntries, FlawAt, Flaw, HasBadChunk, DefectAt, HasLongChunk, FindsDefect, DefectIn, DefectInAll, SizeAt, DescentAt, IsEarliestDefect, FindsFlaw, FlawIn, IsEarliestFlaw, IsSound, Amid, OwnFlaw, OwnDefect, Finds, Either, found_both, found_alike, none_both, strings_are, count-trees, count_entries-entries, SomeDefect, SomeFlaw}
+use Rattle.cborn_judge.proofs.Common.{arith, ℕ, inl, inr, List, [], length, Width, IsUtf8, IsLong, map, refl, sym, subst, Bool, false, Ordering, Option, None, AllZip, Chunk, Size, StringKind, OfBytes, OfText, InvalidReason, NotUtf8, DefectReason, LongHead, EndlessLength, Means, flaw_rank, defect_rank, Tree, ByteChunks, TextChunks, Pairs, Tagged, trees, entries, Value, Partial, top, inside, Opening, an_array, a_map, a_tag, in_chunks, put, built, Ends, paired, chunks_of, chunks_tree, ended_size, Within, WithinAll, WithinEntries, FlawAt, Flaw, HasBadChunk, DefectAt, HasLongChunk, FindsDefect, DefectIn, DefectInAll, SizeAt, DescentAt, IsEarliestDefect, FindsFlaw, FlawIn, IsEarliestFlaw, IsSound, Amid, OwnFlaw, OwnDefect, Finds, Either, found_both, found_alike, none_both, strings_are, count-trees, count_entries-entries, SomeDefect, SomeFlaw}
 use Rattle.cborn_model.specs.Partial.{last_key}
 use Rattle.cborn_model.specs.shared.Walks.{string_of}
 use Rattle.cborn_judge.proofs.Loops.{same, both_ways, regrouped}

@@ -1,6 +1,6 @@
 -- What an encoder writes where a container opens.
 use Rattle.std.specs.Prelude.{◌≡◌, ◌++◌}
-use Rattle.cborn_judge.proofs.Common.{arith, ℕ, List, length, refl, subst, Option, None, Some, Major, unwrap_or, Array, Map, Tag, code, IsLeastHead, Opening, an_array, a_map, a_tag, in_chunks, built, Tree, place, Appends, IsOpening, IsFront, IsHeadFront, BeginsAs, Container}
+use Rattle.cborn_judge.proofs.Common.{arith, ℕ, List, refl, subst, Option, None, Some, Major, unwrap_or, Array, Map, Tag, code, IsLeastHead, Opening, an_array, a_map, a_tag, in_chunks, built, Tree, place, Appends, IsOpening, IsFront, IsHeadFront, BeginsAs, Container}
 
 head_front : (m : ℕ) (c : Option ℕ) (h : List ℕ) → IsLeastHead m (unwrap_or c 0) h → IsHeadFront m c h
 head_front m c h h1 = grind arith

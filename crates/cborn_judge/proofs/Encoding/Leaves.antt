@@ -1,6 +1,6 @@
 -- Items without children, and strings.
 use Rattle.std.specs.Prelude.{◌≡◌, ◌<◌, ◌^◌, ◌++◌, ◌↔◌, ◌+◌, ◌∷◌}
-use Rattle.cborn_judge.proofs.Common.{arith, ℕ, inl, inr, List, append_assoc, length, refl, sym, ap, ◌∙◌, subst, true, false, true≢false, Bool, not, Ordering, IsTrue, Width, StringKind, OfBytes, OfText, AreBytes, place, bytes, text, Partial, top, inside, in_chunks, string_tree, TakesItem, TakesString, Mark, IsEncodedAs, Coded, Stands, is_chunks, are_chunks, kept, IsContent, IsChunk, IsChunkContent, IsStringFront, StandsAs, Written, Encodings, OpenString, Level, bytes-append, Option, None, IsUtf8, InvalidReason, NotUtf8, WidthFits, IsLeastHead, is_simple_value, Tree, Text, Simple, IsNumber, integer, simple, put, integer_tree, defect_rank, flaw_rank, major_of, FlawAt, Flaw, DefectAt, FindsDefect, LongAt, DefectIn, IsEarliestDefect, FindsFlaw, IsEarliestFlaw, Finds, found_alike, magnitude_of, SomeDefect, SomeFlaw, [], IsUtf8-nil, code, head_bytes, least, Uint, Nint, Bytes, IsShortLeaf, AreShortIntegers, text_in, puts, AreEncodedAs, kind_major, simple_fits, holds_below}
+use Rattle.cborn_judge.proofs.Common.{arith, ℕ, inl, inr, List, append_assoc, length, refl, sym, ap, ◌∙◌, subst, true, false, true≢false, Bool, not, Ordering, IsTrue, Width, StringKind, OfBytes, OfText, AreBytes, place, bytes, text, Partial, string_tree, TakesItem, TakesString, Mark, IsEncodedAs, Coded, Stands, is_chunks, kept, IsContent, IsChunk, IsChunkContent, IsStringFront, StandsAs, Written, Encodings, OpenString, Level, bytes-append, Option, None, IsUtf8, InvalidReason, NotUtf8, WidthFits, IsLeastHead, is_simple_value, Tree, Text, Simple, IsNumber, integer, simple, put, integer_tree, defect_rank, flaw_rank, major_of, FlawAt, Flaw, DefectAt, FindsDefect, LongAt, DefectIn, IsEarliestDefect, FindsFlaw, IsEarliestFlaw, Finds, found_alike, magnitude_of, SomeDefect, SomeFlaw, [], IsUtf8-nil, code, head_bytes, least, Uint, Nint, Bytes, IsShortLeaf, AreShortIntegers, text_in, puts, AreEncodedAs, kind_major, simple_fits, holds_below}
 use Rattle.cborn_model.specs.shared.Runs.{IsInteger}
 use Rattle.cborn_judge.proofs.Encoding.Finding.{finds_put}
 use Rattle.cborn_judge.proofs.Encoding.PairsHinted.{none_first}

@@ -1,6 +1,6 @@
 -- What a node means: that it is one item at most, and building it.
 use Rattle.std.specs.Prelude.{◌≡◌, ◌<◌, ◌≤◌, ◌^◌, ◌∷◌, ◌++◌}
-use Rattle.cborn_judge.proofs.Common.{ℕ, suc, inl, inr, List, [], length, refl, sym, ap, ◌∙◌, subst, arith, true, false, Bool, length-append, cond, lt-ltb, ltb, IsUtf8, cases_lt, IsUtf8-append, IsUtf8-nil, Value, Values, Couples, integer, bytes, text, array, dict, tagged, simple, no_values, value, no_pairs, pair, big_endian, AreBytes, IsShortest, IsProper, AreProper, HasProperPairs, value_depth, values_depth, pairs_depth, TextString, Array, Map, Tag, Given, EndlessArgument, head, argument, Chunk, Tree, Uint, Nint, Bytes, Text, ByteChunks, TextChunks, Items, Pairs, Tagged, Simple, Trees, no_item, more, Entries, no_entry, entry, count, count_entries, depth, depth_all, depth_entries, Endless, ending, chunk_bytes, spelled, spelled_all, spelled_entries, Fits, FitsAll, FitsEntries, Within, WithinAll, WithinEntries, IsWord, joined_chunks, IsNumber, IsByteString, IsBignum, ChunksAreText, Means, AllMean, EntriesMean, one_magnitude, large, length_of_chunks, no_more, counted, counted_pairs, flat_map, map, take, AllZip, take_all, item_value, pair_value, trees, entries, values_of, pairs_of, Size, IsItemOf, IsPairOf, holds_below, joined_bytes}
+use Rattle.cborn_judge.proofs.Common.{ℕ, suc, inl, inr, List, [], length, refl, sym, ap, ◌∙◌, subst, arith, true, false, Bool, length-append, lt-ltb, IsUtf8, cases_lt, IsUtf8-append, IsUtf8-nil, Value, Values, Couples, bytes, text, array, dict, tagged, simple, no_values, value, no_pairs, pair, big_endian, AreBytes, IsShortest, IsProper, AreProper, HasProperPairs, value_depth, values_depth, pairs_depth, TextString, Array, Map, Tag, Given, EndlessArgument, head, argument, Chunk, Tree, Uint, Nint, Bytes, Text, ByteChunks, TextChunks, Items, Pairs, Tagged, Simple, Trees, no_item, more, Entries, no_entry, entry, count, count_entries, depth, depth_all, depth_entries, Endless, ending, chunk_bytes, spelled, spelled_all, spelled_entries, Fits, FitsAll, FitsEntries, Within, WithinAll, WithinEntries, IsWord, joined_chunks, IsNumber, IsByteString, IsBignum, ChunksAreText, Means, AllMean, EntriesMean, one_magnitude, large, length_of_chunks, no_more, counted, counted_pairs, flat_map, map, take, AllZip, take_all, item_value, pair_value, trees, entries, values_of, pairs_of, Size, IsItemOf, IsPairOf, holds_below, joined_bytes}
 use Rattle.cborn_model.proofs.Lengths.{some_bytes}
 use Rattle.cborn_model.specs.declared.items.Item.{Item}
 

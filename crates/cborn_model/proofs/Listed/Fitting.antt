@@ -1,6 +1,6 @@
 -- When nodes fit, in std's words: each of them does.
 use Rattle.std.specs.Prelude.{◌≡◌, ◌<◌, ◌∷◌, ◌↔◌}
-use Rattle.cborn_model.proofs.Common.{ℕ, zero, suc, List, [], length, get_or, arith, true, false, Bool, IsTrue, sym, subst, ◌∙◌, Chunk, Tree, Items, Pairs, trees, entries, Size, WidthFits, SizeFits, AreBytes, Fits, FitsAll, FitsEntries, ChunksFit}
+use Rattle.cborn_model.proofs.Common.{ℕ, zero, suc, List, [], length, get_or, arith, false, Bool, IsTrue, sym, subst, ◌∙◌, Chunk, Tree, Items, Pairs, trees, entries, Size, WidthFits, SizeFits, AreBytes, Fits, FitsAll, FitsEntries, ChunksFit}
 use Rattle.cborn_model.proofs.Listed.Trees.{count-trees, count_entries-entries}
 
 abbrev pub PairFits : Tree × Tree → Type 0
@@ -53,7 +53,7 @@ pub entries_and_size : (p : ℕ) (s : Size) (n : ℕ) (xs : List (Tree × Tree))
 entries_and_size p s n xs r e h f = (λ y. (subst (SizeFits s) (e ∙ sym (count_entries-entries xs)) h, f.0 y), λ y. f.1 y.1)
 
 pub items_without_size : (p : ℕ) (s : Size) (n : ℕ) (xs : List Tree) (r : Bool) → n ≡ length xs → r ≡ false → (IsTrue r ↔ SizeFits s n) → (IsTrue r ↔ Fits (Items p s (trees xs)))
-items_without_size p s n xs r h1 h2 h3 = grind (arith, count-trees, false, true)
+items_without_size p s n xs r h1 h2 h3 = grind (arith, count-trees)
 
 pub entries_without_size : (p : ℕ) (s : Size) (n : ℕ) (xs : List (Tree × Tree)) (r : Bool) → n ≡ length xs → r ≡ false → (IsTrue r ↔ SizeFits s n) → (IsTrue r ↔ Fits (Pairs p s (entries xs)))
-entries_without_size p s n xs r h1 h2 h3 = grind (arith, count_entries-entries, false, true)
+entries_without_size p s n xs r h1 h2 h3 = grind (arith, count_entries-entries)

@@ -14,10 +14,10 @@ are_proper_by_pair = all_hold (λ ps. HasProperPairs (pairs_of (pairs ps))) IsPr
 
 -- with the bound on the count
 pub array_proper : (is : List Item) (vs : List Value) (r : Bool) → values is ≡ vs → (IsTrue r ↔ AreProper (values_of (values is)) × (length is < 2 ^ 64)) → (IsTrue r ↔ IsProper (array (values_of vs)))
-array_proper is vs r h1 h2 = grind (arith, array, item_value, length-map, value_count-values_of, values, values_of)
+array_proper is vs r h1 h2 = grind (arith, length-map, value_count-values_of, values)
 
 pub dict_proper : (ps : List (Item × Item)) (vs : List (Value × Value)) (r : Bool) → pairs ps ≡ vs → HasProperPairs (pairs_of (pairs ps)) × (length ps < 2 ^ 64) → (IsTrue r ↔ HasNewKeys (pairs_of (pairs ps))) → (IsTrue r ↔ IsProper (dict (pairs_of vs)))
-dict_proper ps vs r h1 h2 h3 = grind (arith, dict, length-map, pair_count-pairs_of, pair_value, pairs, pairs_of)
+dict_proper ps vs r h1 h2 h3 = grind (arith, length-map, pair_count-pairs_of, pairs)
 
 -- a key whose value is given isn't new
 pub given_not_new : (k v : Value) (ps : List (Value × Value)) → IsNew k (pairs_of ps) → Gives k v ps → ⊥
@@ -38,4 +38,4 @@ given_in_front k v (suc n) (p ∷ ps) g = elim g [ inl s ↦ inl s | inr s ↦ i
 
 -- so no key has a value that is given after it
 pub given_after_head : (v : Value) (n : ℕ) (ps : List (Item × Item)) (x : Item × Item) → 0 < length ps → x ≡ get_or ps 0 x → HasNewKeys (pairs_of (pairs ps)) → Gives (item_value x.0) v (pairs (take n (drop 1 ps))) → ⊥
-given_after_head v n ps x h1 h2 h3 h4 = grind (arith, given_in_front, given_not_new, item_value, pairs)
+given_after_head v n ps x h1 h2 h3 h4 = grind (arith, given_in_front, given_not_new, pairs)

@@ -1,6 +1,6 @@
 -- A number has one magnitude without leading zeros.
 use Rattle.std.specs.Prelude.{◌≡◌, ◌+◌, ◌*◌, ◌<◌, ◌≤◌, ◌^◌, ◌∷◌, ◌↔◌}
-use Rattle.cborn_model.proofs.Common.{ℕ, suc, inl, inr, List, [], length, refl, sym, ap, subst, arith, true, false, Bool, pow-suc, lit<, IsTrue, drop, get_or, mul-le-mul_right, cases_lt, drop_more, pow-le-pow_right, big_endian, AreBytes, IsShortest, number}
+use Rattle.cborn_model.proofs.Common.{ℕ, suc, inl, inr, List, [], length, refl, sym, ap, subst, arith, Bool, pow-suc, lit<, IsTrue, drop, get_or, mul-le-mul_right, cases_lt, drop_more, pow-le-pow_right, big_endian, AreBytes, IsShortest, number}
 
 -- the high part of a number decides
 high_decides : (a b p r s : ℕ) → a < b → r < p → a * p + r ≡ b * p + s → ⊥
@@ -35,7 +35,7 @@ same_long (a ∷ cs) (b ∷ bs) h k l e =
 
 -- fewer bytes make a lower number
 pub fewer : (cs bs : List ℕ) → AreBytes cs → IsShortest bs → length cs < length bs → big_endian cs < big_endian bs
-fewer cs bs h1 h2 h3 = grind (arith, below_power, length, lit<, mul-le-mul_right, pow-le-pow_right)
+fewer cs bs h1 h2 h3 = grind (arith, below_power, lit<, mul-le-mul_right, pow-le-pow_right)
 
 pub one_magnitude : (cs bs : List ℕ) → AreBytes cs → AreBytes bs → IsShortest cs → IsShortest bs → big_endian cs ≡ big_endian bs → cs ≡ bs
 one_magnitude cs bs h k s t e =
@@ -46,7 +46,7 @@ one_magnitude cs bs h k s t e =
 
 -- equal numbers have one sign, and one magnitude
 pub one_number : (s t : Bool) (m n : List ℕ) → number s m ≡ number t n → (s ≡ t) × (big_endian m ≡ big_endian n)
-one_number s t m n h1 = grind (arith, false, true)
+one_number s t m n h1 = grind arith
 
 pub fits_in : (n i : ℕ) → n < 256 ^ i → i ≤ 8 → n < 2 ^ 64
 fits_in n i h l = let m : 256 ^ i ≤ 256 ^ 8 = pow-le-pow_right (lit< tt) l in omega arith

@@ -1,14 +1,14 @@
 -- Simple values, by cases, and their heads.
 use Rattle.std.specs.Prelude.{◌≡◌, ◌<◌, ◌≤◌, ◌⊎◌}
-use Rattle.cborn_model.proofs.Common.{refl, ℕ, inl, inr, arith, ltb, leb, lt-ltb, le-ltb, le-leb, ltb-true, leb-true, and_parts, or_cases, Direct, One, WidthFits, least, is_simple_value, IsTrue}
+use Rattle.cborn_model.proofs.Common.{refl, ℕ, inl, inr, arith, lt-ltb, le-ltb, le-leb, ltb-true, leb-true, and_parts, or_cases, Direct, One, WidthFits, least, is_simple_value, IsTrue}
 use Rattle.cborn_model.proofs.Numbers.OneHead.{least_holds}
 
 -- the two ranges, as the test has them
 pub simple_cases : (n : ℕ) → IsTrue (is_simple_value n) → (n < 24) ⊎ ((32 ≤ n) × (n < 256))
-simple_cases n h1 = grind (arith, and_parts, inl, inr, leb, leb-true, ltb, ltb-true, or_cases)
+simple_cases n h1 = grind (arith, and_parts, leb-true, ltb-true, or_cases)
 
 pub simple_value : (n : ℕ) → (n < 24) ⊎ ((32 ≤ n) × (n < 256)) → IsTrue (is_simple_value n)
-simple_value n h1 = grind (arith, inl, inr, le-leb, le-ltb, lt-ltb)
+simple_value n h1 = grind (arith, le-leb, le-ltb, lt-ltb)
 
 -- it is a byte
 pub simple_below : (n : ℕ) → IsTrue (is_simple_value n) → n < 256

@@ -1,6 +1,6 @@
 -- Each number has a magnitude without leading zeros.
 use Rattle.std.specs.Prelude.{◌≡◌, ◌+◌, ◌*◌, ◌<◌, ◌^◌, ◌∷◌, ◌≤◌}
-use Rattle.cborn_model.proofs.Common.{ℕ, suc, inl, inr, List, [], length, get_or, ap, arith, pow-suc, lit<, drop, length-drop, mul-le-mul_right, pow-le-pow_right, cases_lt, big_endian, AreBytes, IsShortest}
+use Rattle.cborn_model.proofs.Common.{ℕ, suc, List, [], length, get_or, ap, arith, pow-suc, lit<, drop, length-drop, mul-le-mul_right, pow-le-pow_right, cases_lt, big_endian, AreBytes, IsShortest}
 use Rattle.std.specs.Int.Digits.{number_from_digits_after, digits_of}
 use Rattle.std.proofs.lemmas.Int.Digits.{all_below_base_digits_of, first_digits_of, number_digits_of}
 
@@ -21,7 +21,7 @@ digits_are_bytes : (n : ℕ) → AreBytes (digits_of 256 n)
 digits_are_bytes n = all_below_base_digits_of 256 n (omega arith)
 
 digits_are_shortest : (n : ℕ) → IsShortest (digits_of 256 n)
-digits_are_shortest n = grind (arith, cases_lt, digits_of, first_digits_of, inl, inr, shortest_first)
+digits_are_shortest n = grind (arith, cases_lt, first_digits_of, shortest_first)
 
 number_of_digits : (n : ℕ) → big_endian (digits_of 256 n) ≡ n
 number_of_digits n =

@@ -1,6 +1,6 @@
 -- Items of a slice, one by one: what is proper, and what is the same.
 use Rattle.std.specs.Prelude.{◌≡◌, ◌+◌, ◌<◌, ◌∷◌, ◌++◌}
-use Rattle.cborn_model.proofs.Common.{ℕ, zero, suc, List, [], map, length, get_or, refl, sym, ap, subst, ◌∙◌, arith, inl, inr, Item, item_value, pair_value, Value, dict, listed, values_of, pairs_of, Same, SameValues, IsNew, HasNewKeys, IsProper, AreProper, HasProperPairs, HasPair, Gives, cases_lt, length-map, get_or_default, map-append}
+use Rattle.cborn_model.proofs.Common.{ℕ, zero, suc, List, [], map, length, get_or, refl, sym, ap, subst, ◌∙◌, arith, inl, inr, Item, item_value, pair_value, Value, dict, values_of, pairs_of, Same, SameValues, IsNew, HasNewKeys, IsProper, AreProper, HasProperPairs, HasPair, Gives, cases_lt, length-map, get_or_default, map-append}
 use Rattle.cborn_model.proofs.Listed.Values.{pair_count-pairs_of, listed-pairs_of}
 use Rattle.cborn_model.proofs.SameItems.Matching.{given_after, given_before, new_in_both, AllHave, matched, all_have, same_count}
 
@@ -49,7 +49,7 @@ item_same (i ∷ is) (j ∷ js) (suc n) x y l m h = item_same is js n x y (omega
 item_same _ _ n x y l m h = absurd (omega arith)
 
 pub same_item : (is js : List Item) (n : ℕ) (x y : Item) → n < length is → n < length js → x ≡ get_or is n x → y ≡ get_or js n y → SameValues (values_of (values is)) (values_of (values js)) → Same (item_value x) (item_value y)
-same_item is js n x y h1 h2 h3 h4 h5 = grind (arith, get_or, item_same, item_value)
+same_item is js n x y h1 h2 h3 h4 h5 = grind (arith, item_same)
 
 pub same_length : (is js : List Item) → SameValues (values_of (values is)) (values_of (values js)) → length is ≡ length js
 same_length [] [] h = refl
@@ -80,7 +80,7 @@ pair_given k (p ∷ ps) zero x l h = inl (h, refl)
 pair_given k (p ∷ ps) (suc n) x l h = inr (pair_given k ps n x (omega arith) h)
 
 pub gives_at : (k : Value) (ps : List (Item × Item)) (n : ℕ) (x : Item × Item) → n < length ps → x ≡ get_or ps n x → Same k (item_value x.0) → Gives k (item_value x.1) (pairs ps)
-gives_at k ps n x h1 h2 h3 = grind (arith, item_value, pair_given)
+gives_at k ps n x h1 h2 h3 = grind (arith, pair_given)
 
 -- as many pairs
 pub same_size : (ps qs : List (Item × Item)) → Same (dict (pairs_of (pairs ps))) (dict (pairs_of (pairs qs))) → length ps ≡ length qs
@@ -91,12 +91,12 @@ pub had : (ps qs : List (Item × Item)) → Same (dict (pairs_of (pairs ps))) (d
 had ps qs h = subst (AllHave (pairs_of (pairs ps))) (listed-pairs_of (pairs qs)) (all_have (pairs_of (pairs ps)) (pairs_of (pairs qs)) h)
 
 pub maps_match : (ps qs : List (Item × Item)) → length ps ≡ length qs → HasNewKeys (pairs_of (pairs ps)) → AllHave (pairs_of (pairs ps)) (pairs qs) → Same (dict (pairs_of (pairs ps))) (dict (pairs_of (pairs qs)))
-maps_match ps qs h1 h2 h3 = grind (arith, length, length-map, listed, listed-pairs_of, matched, pair_count-pairs_of, pair_value, pairs_of)
+maps_match ps qs h1 h2 h3 = grind (arith, length-map, listed-pairs_of, matched, pair_count-pairs_of)
 
 -- one more of them, as a loop over the pairs of a map meets it
 pub one_more_had : (ps : List (Item × Item)) (qs : List (Value × Value)) (i : ℕ) (x : Item × Item) → i < length ps → x ≡ get_or ps i x → HasPair (pair_value x) qs → ((k : ℕ) (d : Item × Item) → k < i → HasPair (pair_value (get_or ps k d)) qs)
     → (k : ℕ) (d : Item × Item) → k < i + 1 → HasPair (pair_value (get_or ps k d)) qs
-one_more_had ps qs i x h1 h2 h3 h4 k d h5 = grind (arith, cases_lt, get_or, get_or_default, inl, inr, pair_value)
+one_more_had ps qs i x h1 h2 h3 h4 k d h5 = grind (arith, cases_lt, get_or_default)
 
 -- what is given among the pairs of two parts
 pub given_last : (k v : Value) (ps front back : List (Item × Item)) → ps ≡ front ++ back → Gives k v (pairs back) → Gives k v (pairs ps)
@@ -106,4 +106,4 @@ pub given_first : (k v : Value) (ps front back : List (Item × Item)) → ps ≡
 given_first k v ps front back h1 h2 = grind (arith, given_before, map-append)
 
 pub new_to_all : (k : Value) (ps front back : List (Item × Item)) → ps ≡ front ++ back → IsNew k (pairs_of (pairs front)) → IsNew k (pairs_of (pairs back)) → IsNew k (pairs_of (pairs ps))
-new_to_all k ps front back h1 h2 h3 = grind (arith, map-append, new_in_both, pairs_of)
+new_to_all k ps front back h1 h2 h3 = grind (arith, map-append, new_in_both)

@@ -1,6 +1,6 @@
 -- Rearrangements of lists, and what is carried through them.
 use Rattle.std.specs.Prelude.{◌≡◌, ◌⊎◌, ◌∷◌}
-use Rattle.cborn_model.proofs.Common.{arith, ℕ, inl, inr, List, [], map, set, get_or, refl, sym, ap, ◌∙◌, subst, IsPermutation, AllZip, AllByRecursion, IsPermutation-sym, IsPermutation-map, All-permutation, length-map, swap}
+use Rattle.cborn_model.proofs.Common.{arith, ℕ, inl, inr, List, [], map, refl, sym, ap, ◌∙◌, subst, IsPermutation, AllZip, AllByRecursion, IsPermutation-sym, IsPermutation-map, All-permutation, length-map, swap}
 use Rattle.std.proofs.lemmas.List.Elements.{All-from_recursion, recursion_from_All}
 use Rattle.std.proofs.Math.Seq.{map-set}
 use Rattle.std.proofs.Math.ListN.{get_or-map}
@@ -8,7 +8,7 @@ use Rattle.std.specs.List.Sorted.{apply_swaps, SwapsInRange}
 
 module _ {X Y : Type 0} (f : X → Y) where
   map-swap : (xs : List X) (i j : ℕ) → map f (swap xs i j) ≡ swap (map f xs) i j
-  map-swap xs i j = grind (arith, get_or, get_or-map, map, map-set, set)
+  map-swap xs i j = grind (arith, get_or-map, map-set)
 
   map_swaps : (xs : List X) (ps : List (ℕ × ℕ)) → map f (apply_swaps xs ps) ≡ apply_swaps (map f xs) ps
   map_swaps xs [] = refl
