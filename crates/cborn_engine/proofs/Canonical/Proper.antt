@@ -7,8 +7,7 @@ below : (n : ℕ) → WidthFits (least n) n → n < 2 ^ 64
 below n h = holds_below (least n) n h
 
 magnitude_below : (s : Bool) (m x : List ℕ) → IsShortest m → IsInteger s m x → length m < 2 ^ 64
-magnitude_below s m x h (inl d) = shortest_below m (big_endian m) h refl d.0
-magnitude_below s m x h (inr d) = below (length m) d.4.1.0
+magnitude_below s m x h1 h2 = grind (arith, below, big_endian, inl, inr, length, shortest_below)
 
 module _ (order : List ℕ → List ℕ → Ordering) where
   number_proper : (s : Bool) (n : ℕ) (v : Value) (x : List ℕ) → IsNumber s n v → Det order v x → IsProper v

@@ -1,12 +1,11 @@
 -- What a loop over a writer knows.
 use Rattle.std.specs.Prelude.{◌≡◌, ◌≢◌, ◌+◌, ◌-◌, ◌<◌}
-use Rattle.cborn_engine.proofs.Common.{ℕ, zero, suc, List, length, take, drop, Option, Ok, Err, refl, sym, ◌∙◌, ap, subst, length-drop, Appends, Appends-trans, take-append-drop, take_rest, take-add, drop-cons, Sends, failures_after_write, one_more}
+use Rattle.cborn_engine.proofs.Common.{arith, ℕ, zero, suc, List, length, take, drop, Option, Ok, Err, refl, sym, ◌∙◌, ap, subst, length-drop, Appends, Appends-trans, take-append-drop, take_rest, take-add, drop-cons, Sends, failures_after_write, one_more}
 use Rattle.cborn_engine.specs.declared.faults.EngineFault.TheVariants.{WriteFault}
 
 -- a write that takes some bytes is no failure
 pub no_failure : (n : ℕ) (piece : List ℕ) (count : ℕ) → n ≢ 0 → failures_after_write {E = Unit} (Ok n) piece count ≡ count
-no_failure zero piece count h = absurd (h refl)
-no_failure (suc n) piece count h = refl
+no_failure n piece count h1 = grind (arith, suc, zero)
 
 -- what is left to send after some bytes
 abbrev pub rest_after : List ℕ → ℕ → List ℕ
