@@ -24,9 +24,6 @@ pieces-preserved g c =
       calls = omega (arith, c.pieces.invariant.calls, c.in_ok-count.ensures.calls, c.in_ok-count.ensures.piece.0, c.if-count-eq0.false);
     }
 
-pub pieces-init : goal.pieces-init
-pieces-init g c = record { so_far = rw c.new-feeder.ensures (at_first c.args.most (g.R.Source.remaining c.args.reader.now) _ (none_fed c.args.limit)); failures = refl; calls = omega arith }
-
 pub pieces-preserved-then-not-is_refused : goal.pieces-preserved-then-not-is_refused
 pieces-preserved-then-not-is_refused g c =
     let left : c.pieces.left - c.in_ok-count.count + c.in_ok-count.count ≡ c.pieces.left = omega (arith, c.in_ok-count.ensures.piece.0) in

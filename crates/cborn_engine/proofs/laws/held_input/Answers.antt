@@ -3,6 +3,3 @@ use Rattle.cborn_engine.proofs.laws.held_input.Goals as goal
 
 pub returns-clause-items : goal.returns-clause-items
 returns-clause-items c = input_read
-
-pub returns-clause-nodes : goal.returns-clause-nodes
-returns-clause-nodes c = nodes_loaded

@@ -6,10 +6,6 @@ use Rattle.cborn_engine.proofs.Canonical.OfBytes.{encoded_bytes}
 use Rattle.cborn_engine.proofs.CountAnswers.Answered.{kept_counted, normalised_reported}
 use Rattle.cborn_engine.proofs.slices.normalise_slice.Goals as goal
 
-pub written_as-requires : goal.written_as-requires
-written_as-requires g c =
-    held g.O.KeyOrder.order g.met.O.KeyOrder.laws c.args.in_kind c.args.limit c.args.input.now (cow_slice_items c.lent.result) c.in_ok-encodings.ensures.0 (lent_encoded g.O.KeyOrder.order c.args.in_kind c.args.limit c.args.input.now c.in_ok-encodings.encodings c.lent.result c.in_ok-encodings.ensures.1 c.lent.ensures)
-
 pub returns-in_err-encodings-clause-normalised : goal.returns-in_err-encodings-clause-normalised
 returns-in_err-encodings-clause-normalised g c =
     known_error (λ r. CountAnswer c.args.count c.args.in_kind c.args.limit c.args.input.now (NormalisedWhole g.O.KeyOrder.order c.args.in_kind c.args.out_kind c.args.limit c.args.input.now) r) _ _ c.from_residual.ensures.1 c.in_err-encodings.ensures
@@ -54,11 +50,3 @@ pub returns-clause-headline : goal.returns-clause-headline
 returns-clause-headline g c =
     let canonical = (returns-clause-normalised g c).0 in
     normal_form g.O.KeyOrder.order g.met.O.KeyOrder.laws c.args.in_kind c.args.out_kind c.args.limit c.args.input.now _ canonical.0 canonical.1
-
-pub returns-clause-bytes : goal.returns-clause-bytes
-returns-clause-bytes g c =
-    encoded_bytes g.O.KeyOrder.order c.args.in_kind c.args.out_kind c.args.limit c.args.input.now (cow_slice_items c.lent.result) (cow_slice_items c.in_ok-answer.answer) (lent_encoded g.O.KeyOrder.order c.args.in_kind c.args.limit c.args.input.now c.in_ok-encodings.encodings c.lent.result c.in_ok-encodings.ensures.1 c.lent.ensures) c.in_ok-answer.ensures
-
-pub returns-clause-room : goal.returns-clause-room
-returns-clause-room g c =
-    room g.O.KeyOrder.order c.args.in_kind c.args.out_kind c.args.limit c.args.input.now (cow_slice_items c.lent.result) (cow_slice_items c.in_ok-answer.answer) (lent_encoded g.O.KeyOrder.order c.args.in_kind c.args.limit c.args.input.now c.in_ok-encodings.encodings c.lent.result c.in_ok-encodings.ensures.1 c.lent.ensures) c.in_ok-answer.ensures

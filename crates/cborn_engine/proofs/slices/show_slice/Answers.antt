@@ -25,6 +25,3 @@ returns-clause-shown c = (c.in_ok-answer.ensures.shown, c.in_ok-expect.ensures.c
 
 pub returns-clause-malformed : goal.returns-clause-malformed
 returns-clause-malformed c l = shown_reported c.args.count c.args.in_kind c.args.out_kind c.args.limit c.args.input.now l _ (returns-clause-shown c)
-
-pub returns-clause-same_bytes : goal.returns-clause-same_bytes
-returns-clause-same_bytes c = let h = c.in_ok-answer.ensures.shown in same_bytes c.args.in_kind c.args.out_kind c.args.limit c.args.input.now _ h.0 h.1
