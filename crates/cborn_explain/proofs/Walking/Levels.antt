@@ -85,8 +85,7 @@ opened_back x at f o ts h =
     (below, record { within = omega (arith, below, h.within); ground = ground_less 1024 0 (ready f) (open_in f) (opened o ts) h.ground; bytes = ap (take (place_of o)) whole ∙ take_at before (more ++ drop at x) (place_of o) len })
 
 pub opened_ends : (x : List ℕ) (at : ℕ) (f : Partial) → length x < 2 ^ 64 → Opened x at f → EndsAt (take at x) (path_of (levels f))
-opened_ends x at f short h =
-    (ready f, open_in f, h.ground.fit, h.ground.shallow, h.ground.are_open, h.bytes, path_is f (omega (arith, ap length h.bytes, length-take-le at x h.within, h.within, short)))
+opened_ends x at f h1 h2 = grind (arith, length, length-take-le, open_in, path_is, ready)
 
 -- A front of the path leads to where the next level begins.
 
