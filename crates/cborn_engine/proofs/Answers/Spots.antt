@@ -1,6 +1,6 @@
 -- The flaws of what a text notates: each is at a spot, and spots rise, so that the first flaw of all is that of the first node that means nothing.
 use Rattle.std.specs.Prelude.{◌≡◌, ◌<◌, ◌∷◌, ◌++◌}
-use Rattle.cborn_engine.proofs.Common.{arith, ℕ, inl, inr, List, [], refl, sym, subst, Chunk, Tree, Uint, Bytes, Text, TextChunks, Items, Pairs, Tagged, Trees, no_item, more, Entries, no_entry, entry, place, trees, Within, WithinAll, WithinEntries, IsRepeated, HasRepeat, HasBadChunk, FlawAt, Flaw, InvalidReason, IsIn, at_member, AreApart}
+use Rattle.cborn_engine.proofs.Common.{arith, ℕ, inl, inr, List, [], sym, subst, Chunk, Tree, Items, Pairs, Tagged, Trees, no_item, more, Entries, no_entry, entry, place, trees, Within, WithinAll, WithinEntries, IsRepeated, HasRepeat, HasBadChunk, FlawAt, Flaw, InvalidReason, IsIn, at_member, AreApart}
 use Rattle.cborn_judge.proofs.Meaning.Placing.{in_left, in_right}
 use Rattle.cborn_edn.specs.Starts.{starts_of_chunks, unless_bytes, spots, spots_all, spots_entries, IsRising}
 

@@ -1,6 +1,6 @@
 -- What nodes mean is valid if it has an encoding, since its heads give the lengths of its parts.
 use Rattle.std.specs.Prelude.{◌≤◌, ◌<◌, ◌^◌, ◌∷◌}
-use Rattle.cborn_engine.proofs.Common.{ℕ, inl, inr, Bool, true, false, List, [], length, refl, sym, subst, arith, Ordering, AllZip, AllByRecursion, big_endian, IsShortest, WidthFits, least, Tree, Uint, Nint, Bytes, Text, ByteChunks, TextChunks, Items, Pairs, Tagged, Simple, Trees, no_item, more, Entries, no_entry, entry, trees, depth_all, Fits, FitsAll, FitsEntries, Value, Values, Couples, bytes, text, array, dict, tagged, no_values, value, no_pairs, pair, value_count, pair_count, IsProper, AreProper, HasProperPairs, joined_chunks, IsNumber, Means, AllMean, EntriesMean, Entry, IsInteger, Det, DetValues, DetPairs, DetSeq, holds_below, shortest_below, joined_bytes, joined_text, meaning_shallow}
+use Rattle.cborn_engine.proofs.Common.{ℕ, inl, inr, Bool, true, false, List, [], length, sym, subst, arith, Ordering, AllZip, AllByRecursion, big_endian, IsShortest, WidthFits, least, Tree, Uint, Nint, Bytes, Text, ByteChunks, TextChunks, Items, Pairs, Tagged, Simple, Trees, no_item, more, Entries, no_entry, entry, trees, depth_all, Fits, FitsAll, FitsEntries, Value, Values, Couples, bytes, text, array, dict, tagged, no_values, value, no_pairs, pair, value_count, pair_count, IsProper, AreProper, HasProperPairs, joined_chunks, IsNumber, Means, AllMean, EntriesMean, Entry, IsInteger, Det, DetValues, DetPairs, DetSeq, holds_below, shortest_below, joined_bytes, joined_text, meaning_shallow}
 use Rattle.cborn_engine.proofs.Held.ReadsBack.{AreShallow}
 
 below : (n : ℕ) → WidthFits (least n) n → n < 2 ^ 64

@@ -1,6 +1,6 @@
 -- What is answered where two inputs were encoded.
 use Rattle.std.specs.Prelude.{◌≡◌, ◌≤◌, ◌↔◌}
-use Rattle.cborn_engine.proofs.Common.{arith, ℕ, Bool, true, false, Decides, refl, List, length, sym, ◌∙◌, subst, Option, Ordering, AllZip, IsKeyOrder, Value, Same, Kind, AreCompared, IsEncoded, IsCanonical, Holds, HoldSameItems, most_bytes, IsTrue}
+use Rattle.cborn_engine.proofs.Common.{arith, ℕ, Bool, true, false, Decides, List, length, sym, ◌∙◌, subst, Option, Ordering, AllZip, IsKeyOrder, Value, Same, Kind, AreCompared, IsEncoded, IsCanonical, Holds, HoldSameItems, most_bytes, IsTrue}
 use Rattle.cborn_engine.proofs.Comparison.Apart.{difference_too}
 use Rattle.cborn_engine.proofs.Canonical.Canonicity.{own_bytes}
 use Rattle.cborn_engine.proofs.Canonical.Headline.{alike}

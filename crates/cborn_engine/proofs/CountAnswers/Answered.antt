@@ -1,6 +1,6 @@
 -- What is answered for an input that is held and has to hold a given number of items.
 use Rattle.std.specs.Prelude.{◌≡◌, ◌⊎◌, ◌≤◌, ◌∷◌}
-use Rattle.cborn_engine.proofs.Common.{refl, sym, ap, subst, ℕ, List, [], length, Option, Result, Ok, Err, Global, Ordering, inl, inr, arith, CowSlice, AllZip, Tree, trees, Value, Means, unplaced_all, Defect, WireReason, Fault, CompareCountFault, Count, EngineFault, CountFault, Kind, Holds, Spells, SpellsInPlace, SpellsOne, SpellsCount, HoldsOne, IsTaken, IsNotOne, CountAnswer, NormalisedWhole, ShownWhole, CheckedWhole, AreRefusedWhole, of_the_first, of_first_counted, of_second_counted, EncodedWhole, most_bytes, IsRefusedWhole, TellsFaultAs, Invalid, WireFault, not_both, one_fault}
+use Rattle.cborn_engine.proofs.Common.{refl, ap, subst, ℕ, List, [], length, Option, Result, Ok, Err, Global, Ordering, inl, inr, arith, CowSlice, AllZip, Tree, trees, Value, Means, unplaced_all, Defect, WireReason, Fault, CompareCountFault, Count, EngineFault, CountFault, Kind, Holds, Spells, SpellsInPlace, SpellsOne, SpellsCount, HoldsOne, IsTaken, IsNotOne, CountAnswer, NormalisedWhole, ShownWhole, CheckedWhole, AreRefusedWhole, of_the_first, of_first_counted, of_second_counted, EncodedWhole, most_bytes, IsRefusedWhole, TellsFaultAs, Invalid, WireFault, not_both, one_fault}
 use Rattle.cborn_engine.proofs.Answers.{unfaulted}
 use Rattle.cborn_engine.proofs.Held.Meant.{unplaced_once}
 

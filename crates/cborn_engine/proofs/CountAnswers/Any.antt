@@ -1,6 +1,6 @@
 -- Where any number of items will do, the calls that may count answer what those answer that don't.
 use Rattle.std.specs.Prelude.{◌≡◌, ◌≢◌}
-use Rattle.cborn_engine.proofs.Common.{arith, OnOk, IfErr, refl, subst, inl, inr, ℕ, List, Option, Result, Ok, Err, CountFault, CompareCountFault, EngineFault, Kind, Compares, CountAnswer, ComparesCount, counted_of, compare_counted_of, CountsFault, most_bytes, IsRead, IsSent, Reads, Writes, Count}
+use Rattle.cborn_engine.proofs.Common.{arith, OnOk, IfErr, refl, subst, inl, inr, ℕ, List, Option, Result, Ok, Err, CountFault, CompareCountFault, EngineFault, Kind, Compares, CountAnswer, ComparesCount, counted_of, compare_counted_of, CountsFault, most_bytes, IsRead, Reads, Writes, Count}
 use Rattle.cborn_engine.specs.declared.faults.CompareFault.{CompareFault}
 use Rattle.cborn_engine.specs.declared.faults.CompareFault.TheVariants as engine
 

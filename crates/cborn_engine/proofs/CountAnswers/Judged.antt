@@ -1,6 +1,6 @@
 -- What is answered for an input that was read, kept whole or judged.
 use Rattle.std.specs.Prelude.{◌≡◌, ◌≤◌}
-use Rattle.cborn_engine.proofs.Common.{arith, refl, ap, subst, ℕ, List, [], length, Option, Result, Ok, Err, Vec, Global, Ordering, inl, inr, Appends, EngineFault, CountFault, Count, Kind, AreJudged, CountsFault, IsRefused, IsRead, IsSent, Reads, Writes, SpellsCount, most_bytes, Input, Whole, Judged, InputAnswers, ReadsInput, EncodedItems}
+use Rattle.cborn_engine.proofs.Common.{arith, refl, subst, ℕ, List, [], length, Option, Result, Ok, Err, Vec, Global, Ordering, inl, inr, Appends, EngineFault, CountFault, Count, Kind, AreJudged, CountsFault, IsRefused, IsSent, Reads, Writes, SpellsCount, most_bytes, Input, Whole, Judged, InputAnswers, ReadsInput, EncodedItems}
 use Rattle.cborn_engine.proofs.Answers.{nothing_written}
 use Rattle.cborn_engine.proofs.CountAnswers.Streamed.{sent_on}
 

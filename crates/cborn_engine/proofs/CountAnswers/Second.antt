@@ -1,6 +1,6 @@
 -- Where the second item of an input starts: where the first ends.
 use Rattle.std.specs.Prelude.{◌≡◌, ◌≢◌, ◌+◌, ◌≤◌, ◌∷◌, ◌++◌}
-use Rattle.cborn_engine.proofs.Common.{refl, sym, ap, ◌∙◌, subst, ℕ, List, [], length, drop, arith, length-append, map, slice_get, is_some, Tree, ByteChunks, TextChunks, Items, Pairs, Tagged, Trees, no_item, more, trees, place, depth, Placed, spelled, spelled_all, Fits, Wellformed, all_from, Profile, kind_of, IsNotation, Spells, SpellsInPlace, SpellsOne, SecondStarts, listed_reading, tree_list, some_bytes, one_front, Kind, length-drop, Some, None, true, false}
+use Rattle.cborn_engine.proofs.Common.{refl, ap, ◌∙◌, subst, ℕ, List, [], length, drop, arith, length-append, map, slice_get, is_some, Tree, ByteChunks, TextChunks, Items, Pairs, Tagged, Trees, no_item, more, trees, place, depth, Placed, spelled, spelled_all, Fits, Wellformed, all_from, Profile, kind_of, IsNotation, Spells, SpellsInPlace, SpellsOne, SecondStarts, listed_reading, tree_list, some_bytes, one_front, Kind, length-drop, Some, None, true, false}
 use Rattle.cborn_engine.proofs.Answers.{spells}
 use Rattle.cborn_wire.specs.Reading.{IsFirstItem}
 

@@ -1,6 +1,6 @@
 -- What is answered where an input is read, and the answer of the call over what is held is sent.
 use Rattle.std.specs.Prelude.{◌≡◌, ◌≢◌, ◌≤◌}
-use Rattle.cborn_engine.proofs.Common.{arith, refl, sym, ap, subst, ℕ, List, [], length, Option, None, Some, Result, Ok, Err, Vec, Global, Ordering, inl, inr, Appends, cow_slice_items, CowSlice, InputFault, CountFault, Count, EngineFault, Kind, Collects, CountAnswer, ShownWhole, unwrap_or, EncodedWhole, bytes_of, EncodeAnswers, IsEncoded, CountsFault, of_input, IsNoFlaw, most_bytes, IsRefused, ShowAnswers, IsSent, Writes, IsRefusedWhole, IsUnshownWhole}
+use Rattle.cborn_engine.proofs.Common.{arith, refl, ap, subst, ℕ, List, [], length, Option, None, Some, Result, Ok, Err, Vec, Global, Ordering, inl, inr, Appends, cow_slice_items, CowSlice, InputFault, CountFault, Count, EngineFault, Kind, Collects, CountAnswer, ShownWhole, unwrap_or, EncodedWhole, bytes_of, EncodeAnswers, IsEncoded, CountsFault, of_input, IsNoFlaw, most_bytes, IsRefused, ShowAnswers, IsSent, Writes, IsRefusedWhole, IsUnshownWhole}
 use Rattle.cborn_engine.proofs.Answers.{nothing_written, unread, read_whole, read_refused}
 use Rattle.cborn_engine.proofs.CountAnswers.Answered.{same_engine}
 

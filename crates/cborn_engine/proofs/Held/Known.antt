@@ -1,6 +1,6 @@
 -- Inputs that are known.
-use Rattle.std.specs.Prelude.{◌≡◌, ◌≤◌, ◌∷◌, ◌++◌}
-use Rattle.cborn_engine.proofs.Common.{ℕ, List, [], length, inl, inr, Option, None, Some, Err, append-nil, sym, ◌∙◌, ap, arith, Consumes, IsAtEnd, AllZip, Tree, trees, Value, Means, WireFault, Profile, EdnFault, InvalidReason, IsRefusalOfAll, EngineFault, Kind, IsNotation, Spells, Holds, IsNotationFault, IsRefused, IsNoRefusal, LoadAnswers, IsNoFlaw, larger_limit, not_both, LexFault, larger, Invalid, no_flaw}
+use Rattle.std.specs.Prelude.{◌≡◌, ◌≤◌, ◌∷◌}
+use Rattle.cborn_engine.proofs.Common.{ℕ, List, [], length, inl, inr, Option, Some, Err, append-nil, arith, Consumes, IsAtEnd, AllZip, Tree, trees, Value, Means, WireFault, Profile, EdnFault, InvalidReason, IsRefusalOfAll, EngineFault, Kind, IsNotation, Spells, Holds, IsNotationFault, IsRefused, IsNoRefusal, LoadAnswers, IsNoFlaw, larger_limit, not_both, LexFault, larger, Invalid, no_flaw}
 use Rattle.cborn_engine.proofs.Held.Meant.{in_place, means_too}
 use Rattle.cborn_engine.proofs.Held.Notated.{no_stop, no_syntax_error, no_error}
 

@@ -1,5 +1,5 @@
 use Rattle.cborn_engine.proofs.Common.{CheckAnswers, most_bytes, Kind}
-use Rattle.cborn_engine.proofs.CountAnswers.Any.{any_of, any_answered}
+use Rattle.cborn_engine.proofs.CountAnswers.Any.{any_of}
 use Rattle.cborn_engine.proofs.checks.check.Goals as goal
 
 pub of_any-requires : goal.of_any-requires

@@ -1,5 +1,5 @@
 use Rattle.cborn_engine.proofs.Common.{FormAnswers, most_bytes}
-use Rattle.cborn_engine.proofs.CountAnswers.Any.{any_sent, any_written}
+use Rattle.cborn_engine.proofs.CountAnswers.Any.{any_sent}
 use Rattle.cborn_engine.proofs.conversions.normalise.Goals as goal
 
 pub of_any-requires : goal.of_any-requires

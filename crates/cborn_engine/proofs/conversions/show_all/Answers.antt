@@ -1,5 +1,5 @@
 use Rattle.cborn_engine.proofs.Common.{ShowAnswers, most_bytes}
-use Rattle.cborn_engine.proofs.CountAnswers.Any.{any_sent, any_written}
+use Rattle.cborn_engine.proofs.CountAnswers.Any.{any_sent}
 use Rattle.cborn_engine.proofs.conversions.show_all.Goals as goal
 
 pub of_any-requires : goal.of_any-requires

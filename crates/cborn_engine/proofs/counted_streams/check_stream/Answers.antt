@@ -1,6 +1,5 @@
-use Rattle.cborn_engine.proofs.Common.{CheckAnswers, CountAnswer, most_bytes, EngineFault, CountFault, Kind}
+use Rattle.cborn_engine.proofs.Common.{CheckAnswers, CountAnswer, most_bytes, Kind}
 use Rattle.cborn_engine.proofs.CountAnswers.Judged.{answered}
-use Rattle.cborn_engine.proofs.CountAnswers.Streamed.{quiet_counted}
 use Rattle.cborn_engine.proofs.counted_streams.check_stream.Goals as goal
 
 pub returns-clause-checks : goal.returns-clause-checks

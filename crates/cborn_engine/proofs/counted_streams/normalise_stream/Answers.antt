@@ -1,8 +1,7 @@
-use Rattle.cborn_engine.proofs.Common.{FormAnswers, CountAnswer, NormalisesCount, bytes_of, most_bytes, CountFault, EngineFault}
+use Rattle.cborn_engine.proofs.Common.{FormAnswers, CountAnswer, NormalisesCount, bytes_of, most_bytes}
 use Rattle.cborn_engine.proofs.Answers.{known_error}
 use Rattle.cborn_engine.proofs.Canonical.NormalForm.{written}
 use Rattle.cborn_engine.proofs.CountAnswers.Judged.{answered_sent, unanswered_sent}
-use Rattle.cborn_engine.proofs.CountAnswers.Streamed.{sent_quiet, quiet_counted}
 use Rattle.cborn_engine.proofs.counted_streams.normalise_stream.Goals as goal
 
 pub returns-in_err-input-clause-normalises : goal.returns-in_err-input-clause-normalises

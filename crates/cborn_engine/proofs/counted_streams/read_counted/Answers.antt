@@ -1,6 +1,5 @@
-use Rattle.cborn_engine.proofs.Common.{CountAnswer, EncodeAnswers, most_bytes, CountFault, EngineFault}
+use Rattle.cborn_engine.proofs.Common.{CountAnswer, EncodeAnswers, most_bytes}
 use Rattle.cborn_engine.proofs.CountAnswers.Judged.{answered}
-use Rattle.cborn_engine.proofs.CountAnswers.Streamed.{quiet_counted}
 use Rattle.cborn_engine.proofs.counted_streams.read_counted.Goals as goal
 
 pub returns-clause-reads : goal.returns-clause-reads

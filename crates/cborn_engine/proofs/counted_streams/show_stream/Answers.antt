@@ -1,7 +1,6 @@
-use Rattle.cborn_engine.proofs.Common.{ShowAnswers, CountAnswer, ShownWhole, ShowsCount, bytes_of, most_bytes, CountFault, EngineFault}
+use Rattle.cborn_engine.proofs.Common.{ShowAnswers, CountAnswer, ShowsCount, bytes_of, most_bytes}
 use Rattle.cborn_engine.proofs.Answers.{known_error}
-use Rattle.cborn_engine.proofs.Held.SameBytes.{written}
-use Rattle.cborn_engine.proofs.CountAnswers.Streamed.{unread_sent, read_sent, read_shown, show_refused, unshown_quiet, quiet, sent_quiet, quiet_counted}
+use Rattle.cborn_engine.proofs.CountAnswers.Streamed.{unread_sent, read_sent, read_shown, show_refused}
 use Rattle.cborn_engine.proofs.counted_streams.show_stream.Goals as goal
 
 pub returns-in_err-input-clause-shows : goal.returns-in_err-input-clause-shows

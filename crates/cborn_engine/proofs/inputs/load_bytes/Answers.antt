@@ -1,8 +1,8 @@
 use Rattle.std.specs.Prelude.{◌≡◌, ◌+◌, ◌-◌}
-use Rattle.cborn_engine.proofs.Common.{refl, arith, take, true, is_err, LoadAnswers, Loads, Kind}
+use Rattle.cborn_engine.proofs.Common.{arith, take, true, is_err, LoadAnswers, Loads, Kind}
 use Rattle.cborn_wire.proofs.Feeding.Outcomes.{err_is}
-use Rattle.cborn_engine.proofs.Streams.Coming.{at_first, halted, goes_on}
-use Rattle.cborn_engine.proofs.Streams.Feeding.{IsFedSoFar, none_fed, read_on, fed_now, ended_badly}
+use Rattle.cborn_engine.proofs.Streams.Coming.{halted, goes_on}
+use Rattle.cborn_engine.proofs.Streams.Feeding.{IsFedSoFar, read_on, fed_now, ended_badly}
 use Rattle.cborn_engine.proofs.Answers.{known_error, unread}
 use Rattle.cborn_engine.proofs.inputs.load_bytes.Goals as goal
 

@@ -1,4 +1,4 @@
-use Rattle.cborn_engine.proofs.Canonical.OfBytes.{bytes_hold, held_within, canonical_bytes}
+use Rattle.cborn_engine.proofs.Canonical.OfBytes.{bytes_hold, canonical_bytes}
 use Rattle.cborn_engine.proofs.laws.bytes_alone.Goals as goal
 
 pub returns-clause-held : goal.returns-clause-held

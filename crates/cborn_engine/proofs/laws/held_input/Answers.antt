@@ -1,4 +1,4 @@
-use Rattle.cborn_engine.proofs.Held.Known.{input_read, nodes_loaded}
+use Rattle.cborn_engine.proofs.Held.Known.{input_read}
 use Rattle.cborn_engine.proofs.laws.held_input.Goals as goal
 
 pub returns-clause-items : goal.returns-clause-items

@@ -1,4 +1,3 @@
-use Rattle.cborn_engine.proofs.Held.Known.{holds_more}
 use Rattle.cborn_engine.proofs.Held.Meant.{holds_once}
 use Rattle.cborn_engine.proofs.laws.one_list.Goals as goal
 

@@ -1,6 +1,5 @@
-use Rattle.cborn_engine.proofs.Common.{cow_slice_items, NormalisedWhole}
-use Rattle.cborn_engine.proofs.Canonical.Headline.{alike, same_held}
-use Rattle.cborn_engine.proofs.CountAnswers.Answered.{engine_of}
+use Rattle.cborn_engine.proofs.Common.{cow_slice_items}
+use Rattle.cborn_engine.proofs.Canonical.Headline.{alike}
 use Rattle.cborn_engine.proofs.laws.two_calls.Goals as goal
 
 pub returns-clause-alike : goal.returns-clause-alike

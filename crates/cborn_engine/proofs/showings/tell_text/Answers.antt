@@ -1,7 +1,7 @@
-use Rattle.cborn_engine.proofs.Common.{IfErr, List, ℕ, subst, IsShownText, IsUnshown, Fault, kind_of, IsUnshownHeld}
+use Rattle.cborn_engine.proofs.Common.{IfErr, List, ℕ, subst, Fault, kind_of, IsUnshownHeld}
 use Rattle.cborn_edn.specs.ShownBytes.{Notates}
-use Rattle.cborn_engine.proofs.Answers.{known_error, no_reading, as_bytes, as_text, never_wire, refused}
-use Rattle.cborn_engine.proofs.Held.NotatedTexts.{spelled_shows, spelled_read}
+use Rattle.cborn_engine.proofs.Answers.{known_error, no_reading, refused}
+use Rattle.cborn_engine.proofs.Held.NotatedTexts.{spelled_read}
 use Rattle.cborn_engine.proofs.showings.tell_text.Goals as goal
 
 pub returns-in_err-bytes-clause-unshown : goal.returns-in_err-bytes-clause-unshown

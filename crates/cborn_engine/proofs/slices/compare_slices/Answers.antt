@@ -1,6 +1,6 @@
-use Rattle.cborn_engine.proofs.Common.{inr, IfErr, cow_slice_items, AreRefusedWhole, of_the_first, TellsFaultAs}
-use Rattle.cborn_engine.proofs.Answers.{known_error, unfaulted}
-use Rattle.cborn_engine.proofs.Comparison.Compared.{its_own, bytes_compared}
+use Rattle.cborn_engine.proofs.Common.{cow_slice_items, of_the_first, TellsFaultAs}
+use Rattle.cborn_engine.proofs.Answers.{known_error}
+use Rattle.cborn_engine.proofs.Comparison.Compared.{its_own}
 use Rattle.cborn_engine.proofs.CountAnswers.Answered.{compared_reported, taken_reported}
 use Rattle.cborn_engine.proofs.slices.compare_slices.Goals as goal
 

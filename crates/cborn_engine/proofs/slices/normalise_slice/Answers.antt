@@ -1,8 +1,7 @@
 use Rattle.cborn_engine.proofs.Common.{cow_slice_items, CountAnswer, NormalisedWhole}
-use Rattle.cborn_engine.proofs.Answers.{lent_encoded, held, room, known_error, unfaulted}
+use Rattle.cborn_engine.proofs.Answers.{lent_encoded, known_error, unfaulted}
 use Rattle.cborn_engine.proofs.Canonical.Canonicity.{canon_of}
 use Rattle.cborn_engine.proofs.Canonical.NormalForm.{normal_form}
-use Rattle.cborn_engine.proofs.Canonical.OfBytes.{encoded_bytes}
 use Rattle.cborn_engine.proofs.CountAnswers.Answered.{kept_counted, normalised_reported}
 use Rattle.cborn_engine.proofs.slices.normalise_slice.Goals as goal
 

@@ -1,7 +1,6 @@
 use Rattle.cborn_engine.proofs.Common.{CountAnswer, ShownWhole}
 use Rattle.cborn_engine.proofs.Answers.{known_error, unfaulted}
 use Rattle.cborn_engine.proofs.CountAnswers.Answered.{kept_counted, shown_reported}
-use Rattle.cborn_engine.proofs.Held.SameBytes.{same_bytes}
 use Rattle.cborn_engine.proofs.slices.show_slice.Goals as goal
 
 pub returns-in_err-answer-clause-shown : goal.returns-in_err-answer-clause-shown

@@ -1,7 +1,6 @@
 use Rattle.std.specs.Prelude.{◌≡◌, ◌++◌}
-use Rattle.cborn_engine.proofs.Common.{rules, None, Err, sym, ◌∙◌, subst, arith, Refused, bytes-append, are_bytes, IsHeld, refused, HasJudged}
+use Rattle.cborn_engine.proofs.Common.{rules, None, Err, ◌∙◌, subst, arith, Refused, bytes-append, are_bytes, IsHeld, refused, HasJudged}
 use Rattle.cborn_wire.specs.shared.Visiting.{Reads}
-use Rattle.cborn_engine.proofs.Streams.Judging.{stays}
 use Rattle.cborn_engine.proofs.piece_judges.PieceJudge.take.Goals as goal
 
 pub returns-in_ok-fault_in-in-Err : goal.returns-in_ok-fault_in-in-Err
