@@ -1,5 +1,5 @@
 -- Where two inputs first differ, the same path leads in both.
-use Rattle.std.specs.Prelude.{◌≡◌, ◌+◌, ◌^◌, ◌<◌, ◌≤◌, ◌∷◌, ◌++◌, ◌⊎◌}
+use Rattle.std.specs.Prelude.{◌≡◌, ◌+◌, ◌^◌, ◌<◌, ◌≤◌, ◌∷◌, ◌++◌}
 use Rattle.cborn_explain.proofs.Common.{sym, ap, ◌∙◌, subst, ℕ, zero, suc, List, [], length, take, drop, get_or, inl, inr, arith, length-append, cases_lt, length-take-le, take-append-drop, take_all, take_more, take-append_seam, Level, Step, path_of, place_at, IsWalked, EndsAt, LeadsTo, DifferFirstAt, up_to_key, LeadsToDifference}
 use Rattle.cborn_explain.proofs.Walking.Levels.{some_path, front_ends}
 use Rattle.cborn_explain.proofs.Walking.Whole.{near, walk_leads}

@@ -1,6 +1,6 @@
 -- The path into the levels of a walk is that into what is open, and its fronts lead to where the levels begin.
-use Rattle.std.specs.Prelude.{◌≡◌, ◌+◌, ◌/◌, ◌%◌, ◌^◌, ◌<◌, ◌≤◌, ◌∷◌, ◌++◌, ◌⊎◌}
-use Rattle.cborn_explain.proofs.Common.{refl, sym, ap, ◌∙◌, subst, ℕ, zero, suc, List, [], length, take, drop, get_or, cond, ltb, eqb, Bool, true, false, Option, Some, None, inl, inr, arith, append_assoc, length-append, cases_lt, lt-ltb, le-ltb, length-take-le, take-append-drop, take-append-le, take_all, take_at, Tree, trees, spelled_all, Opening, an_array, a_map, a_tag, in_chunks, Partial, top, inside, paired, last_key, opened, opening, beginning, beginnings, Level, front, ready, open_in, lessened, level_in, levels, step_in_map, step_in, steps, EndsAt, step_of, path_of, place_at, Opened}
+use Rattle.std.specs.Prelude.{◌≡◌, ◌+◌, ◌/◌, ◌^◌, ◌<◌, ◌≤◌, ◌∷◌, ◌++◌}
+use Rattle.cborn_explain.proofs.Common.{refl, sym, ap, ◌∙◌, subst, ℕ, zero, suc, List, [], length, take, drop, get_or, cond, ltb, eqb, Bool, true, false, Option, Some, None, inl, inr, arith, append_assoc, length-append, cases_lt, length-take-le, take-append-drop, take-append-le, take_all, take_at, Tree, trees, spelled_all, Opening, an_array, a_map, a_tag, in_chunks, Partial, top, inside, paired, last_key, opened, opening, beginning, beginnings, Level, front, ready, open_in, lessened, level_in, levels, step_in_map, step_in, steps, EndsAt, step_of, path_of, place_at, Opened}
 use Rattle.cborn_model.proofs.Lengths.{no_more_nodes}
 use Rattle.cborn_model.proofs.Listed.Trees.{count-trees}
 use Rattle.cborn_wire.specs.shared.Ground.{place_of}

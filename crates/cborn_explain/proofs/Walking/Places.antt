@@ -1,9 +1,8 @@
 -- The head that comes next, or is partial, is never before one that came.
-use Rattle.std.specs.Prelude.{◌/◌, ◌%◌, ◌≤◌, ◌∷◌, ◌++◌}
+use Rattle.std.specs.Prelude.{◌≤◌, ◌∷◌, ◌++◌}
 use Rattle.cborn_explain.proofs.Common.{ℕ, suc, List, [], length, Bool, true, false, cond, leb, ltb, Option, Some, None, arith, Opening, an_array, a_map, built, Tree, Trees, WireReason, OpenContainer, opened, slot, slot_in, open_depth, Goal, argument_of, content_of, nothing, gathering, State, Live, Failed, is_full, finished, holding, ended, after_head, gather, begin_head, unless, at_slot, number, step, run, place_in}
-use Rattle.cborn_model.specs.declared.heads.Width.TheVariants.{Direct, One}
+use Rattle.cborn_model.specs.declared.heads.Width.TheVariants.{Direct}
 use Rattle.cborn_model.specs.declared.heads.Major.{Major}
-use Rattle.cborn_model.specs.declared.heads.Major.TheVariants.{Unsigned, Negative, ByteString, TextString, Array, Map, Tag, Other}
 use Rattle.cborn_model.specs.Heads.{Argument, Given, EndlessArgument}
 use Rattle.cborn_wire.specs.SlotFaults.{needs_item}
 use Rattle.cborn_wire.specs.HeadReading.{major_at, size_in, count_in}

@@ -8,7 +8,7 @@ use Rattle.cborn_wire.specs.declared.faults.VisitFault.TheVariants.{Refused, Mem
 use Rattle.cborn_wire.specs.declared.head_readers.HeadReader.{HeadReader}
 use Rattle.cborn_wire.specs.declared.head_readers.PartialHead.{PartialHead}
 use Rattle.cborn_wire.proofs.Machine.Running.{run-append}
-use Rattle.cborn_wire.proofs.Machine.SoundItems.{SoundLive, SoundFailed, Sound}
+use Rattle.cborn_wire.proofs.Machine.SoundItems.{SoundLive, Sound}
 use Rattle.cborn_wire.proofs.Machine.SoundRuns.{sound}
 use Rattle.cborn_wire.proofs.Spelled.SlotLaws.{opened}
 use Rattle.cborn_explain.proofs.Walking.Places.{place_rises}
