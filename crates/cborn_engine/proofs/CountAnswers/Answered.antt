@@ -85,8 +85,5 @@ taken count k limit x vs n h s = record { short = n; items = vs; held = h; one =
 -- of two inputs
 
 module _ (order : List ℕ → List ℕ → Ordering) (count : Count) (k l : Kind) (limit : ℕ) (x y : List ℕ) where
-  pub first_refused : (why : CountFault) → CountAnswer count k limit x (EncodedWhole order k limit x) (Err why) → AreRefusedWhole count k l limit x y (of_first_counted why)
-  first_refused why h1 = grind (arith, inl)
-
   pub second_refused : (why : CountFault) → IsTaken count k limit x → CountAnswer count l limit y (EncodedWhole order l limit y) (Err why) → AreRefusedWhole count k l limit x y (of_second_counted why)
   second_refused why h1 h2 = grind (arith, inr)

@@ -42,10 +42,3 @@ module _ (order : List ℕ → List ℕ → Ordering) (count : Count) (k : Kind)
       read = answered (λ x. IsSent (CountFault.Engine EngineFault.WriteFault) (Answers x) s.0) i r h (λ x g. sent_on (CountFault.Engine EngineFault.WriteFault) (Answers x) answer s.0 r s.2 (f x g));
     }
 
-  -- an input that isn't taken fails no write
-  pub input_unwritten : {A : Type 0} (why : EngineFault) (n : ℕ) → ReadsInput order count k limit a b (Err why) → CountsFault {A = A} (CountFault.Engine EngineFault.WriteFault) (Err (CountFault.Engine why)) n n
-  input_unwritten EngineFault.WriteFault n h = absurd (go count k h.answer)
-    where
-      go : (count : Count) (k : Kind) → InputAnswers order count k limit h.input (Err EngineFault.WriteFault) → ⊥
-      go count k r = r
-  input_unwritten _ n h = (λ p. absurd cc, λ p. refl)

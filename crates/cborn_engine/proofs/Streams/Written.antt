@@ -23,9 +23,6 @@ sent_on bytes sent n a b c h k =
     subst (Appends a c) (sym (take-add sent n bytes))
     (Appends-trans a b c (take sent bytes) (take n (drop sent bytes)) h (subst (λ (r : List ℕ). Appends b c (take n r)) (take_rest bytes sent) k))
 
-pub length-rest_after : (bytes : List ℕ) (sent : ℕ) → length (rest_after bytes sent) ≡ length bytes - sent
-length-rest_after bytes sent = ap length (take_rest bytes sent) ∙ length-drop sent bytes
-
 -- a front of the bytes went out
 pub front_out : (bytes : List ℕ) (sent : ℕ) (a b : Option (List ℕ)) → Appends a b (take sent bytes) → Sends a b bytes (Err WriteFault)
 front_out bytes sent a b h = record { output = take sent bytes; written = h; answer = (refl, (drop sent bytes, take-append-drop sent bytes)) }
