@@ -25,7 +25,7 @@ use std::alloc::Global;
 /// `ReadFault`, `TooLong`, `Wire` and `OutOfMemory`, as `load_within` gives them for bytes, and
 /// `Invalid`: the first flaw of the first item that isn't valid, at its offset in bytes from the
 /// start of the input. A defect is reported only of bytes whose items are all valid.
-#[tactic(auto, using(crate::proofs::CountAnswers::Any::any_counts))]
+#[tactic(auto, using(crate::proofs::CountAnswers::Any::any_counts, crate::proofs::CountAnswers::Any::any_answered))]
 pub fn check<O: KeyOrder, R: Source>(
     alloc: Global,
     limit: Limit,

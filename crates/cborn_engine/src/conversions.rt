@@ -25,7 +25,7 @@ use std::alloc::Global;
 /// Those of `load_within`, and `Invalid`: the first flaw of the first item that isn't valid, at its
 /// offset in bytes from the start of the input. At these the writer is as it was. `WriteFault`
 /// where the writer failed; then a front of the answer went out.
-#[tactic(auto, using(crate::proofs::CountAnswers::Any::any_counts, crate::proofs::CountAnswers::Any::any_ok, crate::proofs::CountAnswers::Any::any_kept))]
+#[tactic(auto, using(crate::proofs::CountAnswers::Any::any_counts, crate::proofs::CountAnswers::Any::any_ok, crate::proofs::CountAnswers::Any::any_kept, crate::proofs::CountAnswers::Any::any_written))]
 pub fn normalise<O: KeyOrder, R: Source, W: Sink>(
     alloc: Global,
     limit: Limit,
@@ -54,7 +54,7 @@ pub fn normalise<O: KeyOrder, R: Source, W: Sink>(
 /// Those of `load_within`, and `Show` where the output is notation and a text string in it isn't
 /// UTF-8, at the lowest place of one. At these the writer is as it was. `WriteFault` where the
 /// writer failed; then a front of the answer went out.
-#[tactic(auto, using(crate::proofs::CountAnswers::Any::any_counts, crate::proofs::CountAnswers::Any::any_ok, crate::proofs::CountAnswers::Any::any_kept))]
+#[tactic(auto, using(crate::proofs::CountAnswers::Any::any_counts, crate::proofs::CountAnswers::Any::any_ok, crate::proofs::CountAnswers::Any::any_kept, crate::proofs::CountAnswers::Any::any_written))]
 pub fn show_all<R: Source, W: Sink>(
     alloc: Global,
     limit: Limit,

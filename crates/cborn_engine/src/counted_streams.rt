@@ -33,6 +33,7 @@ use std::borrow::CowSlice;
 /// # Errors
 /// `Engine`, with the fault that `normalise` gives. Where it gives none, `NoItem` or
 /// `MoreItems`; at these the writer is as it was.
+#[tactic(auto, using(crate::proofs::CountAnswers::Streamed::quiet_counted, crate::proofs::CountAnswers::Streamed::sent_quiet))]
 pub fn normalise_stream<O: KeyOrder, R: Source, W: Sink>(
     alloc: Global,
     limit: Limit,
@@ -60,6 +61,7 @@ pub fn normalise_stream<O: KeyOrder, R: Source, W: Sink>(
 /// # Errors
 /// `Engine`, with the fault that `show_all` gives. Where it gives none, `NoItem` or
 /// `MoreItems`; at these the writer is as it was.
+#[tactic(auto, using(crate::proofs::CountAnswers::Streamed::quiet, crate::proofs::CountAnswers::Streamed::quiet_counted, crate::proofs::CountAnswers::Streamed::sent_quiet, crate::proofs::CountAnswers::Streamed::unshown_quiet, crate::proofs::Held::SameBytes::written))]
 pub fn show_stream<R: Source, W: Sink>(
     alloc: Global,
     limit: Limit,
@@ -106,6 +108,7 @@ fn send<W: Sink>(
 ///
 /// # Errors
 /// `Engine`, with the fault that `check` gives. Else `NoItem` or `MoreItems`.
+#[tactic(auto, using(crate::proofs::CountAnswers::Streamed::quiet_counted))]
 pub fn check_stream<O: KeyOrder, R: Source>(
     alloc: Global,
     limit: Limit,
@@ -159,6 +162,7 @@ pub fn compare_streams<O: KeyOrder, R: Source, Q: Source>(
 ///
 /// # Errors
 /// Those of `normalise_stream` but `WriteFault`.
+#[tactic(auto, using(crate::proofs::CountAnswers::Streamed::quiet_counted))]
 fn read_counted<O: KeyOrder, R: Source>(
     alloc: Global,
     limit: Limit,

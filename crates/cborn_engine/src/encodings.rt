@@ -47,6 +47,7 @@ pub fn encode_input<O: KeyOrder>(
 }
 
 /// What `encode_input` answers of bytes.
+#[tactic(auto, using(crate::proofs::Answers::judged))]
 fn encode_bytes<O: KeyOrder>(
     alloc: Global,
     limit: Limit,

@@ -73,6 +73,7 @@ const PIECE: usize = 4096;
 
 /// The items of bytes, of which none is kept once it was fed. After a fault the bytes are read on
 /// to their end and not fed, so that a failed read and a byte too many are reported in its place.
+#[tactic(auto, using(crate::proofs::Streams::Coming::at_first, crate::proofs::Streams::Feeding::none_fed))]
 fn load_bytes<R: Source>(
     alloc: Global,
     limit: Limit,
@@ -102,6 +103,7 @@ fn load_bytes<R: Source>(
 }
 
 /// The items of a text, which is kept until they are made.
+#[tactic(auto, using(crate::proofs::Answers::still, crate::proofs::Answers::loaded, crate::proofs::Answers::read_whole))]
 fn load_text<R: Source>(
     alloc: Global,
     limit: Limit,

@@ -44,6 +44,7 @@ pub fn canonical_text<O: KeyOrder>()
 ///
 /// # Errors
 /// Those of the calls.
+#[tactic(auto, using(crate::proofs::CountAnswers::Answered::engine_of, crate::proofs::Canonical::Headline::same_held))]
 pub fn two_calls<'a, 'b, O: KeyOrder>(
     alloc: Global,
     limit: Limit,
@@ -81,6 +82,7 @@ pub fn headline_of_bytes<O: KeyOrder>()
 /// What an input of bytes holds under some limit is what the bytes hold, and what bytes hold an
 /// input of them holds under some limit. So its canonical form, as bytes, is the deterministic
 /// encoding of what the bytes hold.
+#[tactic(auto, using(crate::proofs::Canonical::OfBytes::held_within))]
 pub fn bytes_alone<O: KeyOrder>()
     ensures held { (limit : ℕ) (x : List ℕ) (items : List Value) → Holds Kind.Wire limit x items → BytesHold x (values_of items) }
     ensures within { (x : List ℕ) (items : List Value) → BytesHold x (values_of items) → (limit : ℕ) × Holds Kind.Wire limit x items }
@@ -113,6 +115,7 @@ pub fn joined<O: KeyOrder>()
 
 /// What is shown of bytes, of whatever kind, is shown as those bytes again; and what is shown of an
 /// input is one.
+#[tactic(auto, using(crate::proofs::Held::ShownBack::shown_as_bytes))]
 pub fn shown_back()
     ensures back { (out : Kind) (limit : ℕ) (x v : List ℕ) → IsShown Kind.Wire out limit x v → IsShown out Kind.Wire limit v x }
     ensures one { (k out : Kind) (limit : ℕ) (x v w : List ℕ) → IsShown k out limit x v → IsShown k out limit x w → v ≡ w }
@@ -156,6 +159,7 @@ pub fn form_of_itself<O: KeyOrder>()
 {}
 
 /// An input holds at most one list of items, and holds it under each larger limit too.
+#[tactic(auto, using(crate::proofs::Held::Known::holds_more))]
 pub fn one_list()
     ensures one { (k : Kind) (limit : ℕ) (x : List ℕ) (vs ws : List Value) → Holds k limit x vs → Holds k limit x ws → vs ≡ ws }
     ensures larger { (k : Kind) (limit most : ℕ) (x : List ℕ) (vs : List Value) → limit ≤ most → Holds k limit x vs → Holds k most x vs }
@@ -170,6 +174,7 @@ pub fn whole_input()
 /// An input that holds items, and is no longer than allowed, is refused only where the reader
 /// failed or memory was refused. So is the loading of one that spells nodes, whether they mean
 /// items or not.
+#[tactic(auto, using(crate::proofs::Held::Known::nodes_loaded))]
 pub fn held_input()
     ensures items { (k : Kind) (limit most : ℕ) (x : List ℕ) (vs : List Value) (why : EngineFault) → length x ≤ most → Holds k limit x vs → IsRefused k limit most x why → IsNoRefusal why }
     ensures nodes { (k : Kind) (limit most : ℕ) (x : List ℕ) (nodes : List Tree) (why : EngineFault) → length x ≤ most → Spells k limit x nodes → LoadAnswers k limit most x (Err why) → IsNoRefusal why }

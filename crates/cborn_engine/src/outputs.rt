@@ -12,7 +12,7 @@ use crate::sinks::Sink;
 /// # Errors
 /// `WriteFault` if a write or the flush fails, or a write takes nothing; then a front of the bytes was
 /// written, which may be all of them.
-#[tactic(auto, using(crate::proofs::Streams::Written::no_progress, crate::proofs::Streams::Written::sent_on, crate::proofs::Streams::Written::front_out))]
+#[tactic(auto, using(crate::proofs::Streams::Written::no_progress, crate::proofs::Streams::Written::sent_on, crate::proofs::Streams::Written::front_out, crate::proofs::Streams::Written::no_failure, crate::proofs::Streams::Written::rest_after))]
 pub fn write_answer<W: Sink>(writer: &mut W, bytes: &[u8]) -> Result<(), EngineFault>
     ensures writes { Sends (W.contents writer.old) (W.contents writer.new) bytes.now result }
     ensures failures { W.failed writer.new ≡ failures_after result (W.failed writer.old) }

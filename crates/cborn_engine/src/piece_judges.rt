@@ -29,6 +29,7 @@ pub(crate) struct PieceJudge<O> {
 
 impl<O: KeyOrder> PieceJudge<O> {
     /// A judge of bytes of which none came yet, with an encoder that was handed nothing. Takes no memory.
+    #[tactic(auto, using(cborn_wire::proofs::Visiting::Ending::fresh_fed))]
     pub(crate) fn over(alloc: Global, limit: Limit, encoder: Encoder<O>) -> PieceJudge<O>
         requires { ⟦<Encoder<O> as Visitor>⟧.holds encoder (top []) no_part }
         ensures { IsJudging ⟦<Encoder<O> as Visitor>⟧.holds result [] limit }
@@ -45,6 +46,7 @@ impl<O: KeyOrder> PieceJudge<O> {
     ///
     /// # Errors
     /// `AllocError` if memory is refused; then nothing is known of the judge.
+    #[tactic(auto, using(crate::proofs::Streams::Judging::stays))]
     pub(crate) fn take(&mut self, piece: &[u8]) -> Result<(), AllocError>
         requires { (limit : ℕ) × (x : List ℕ) × IsJudging ⟦<Encoder<O> as Visitor>⟧.holds self.old x limit × (length x + length piece.now < 2 ^ 64) }
         ensures { OnOk result ((limit : ℕ) (x : List ℕ) → IsJudging ⟦<Encoder<O> as Visitor>⟧.holds self.old x limit → IsJudging ⟦<Encoder<O> as Visitor>⟧.holds self.new (x ++ piece.now) limit) }

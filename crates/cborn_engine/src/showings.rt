@@ -101,6 +101,7 @@ fn notate_bytes(
 
 /// What `show_input` answers of a text: the bytes that it spells, in a form of this kind, or why it
 /// spells none. The text strings that it notates are UTF-8, so that they have a notation.
+#[tactic(auto, using(crate::proofs::Held::NotatedTexts::spelled_shows, crate::proofs::Answers::as_text, crate::proofs::Answers::never_wire, crate::proofs::Answers::as_bytes))]
 fn tell_text(
     alloc: Global,
     limit: Limit,

@@ -37,6 +37,7 @@ use std::borrow::CowSlice;
 /// `TooLong` where the input has more than 2^30 bytes. Else the fault of its content, as
 /// `normalise` gives it, at its offset in bytes from the start of the input, or `OutOfMemory`. Where
 /// there is none of these, `NoItem` or `MoreItems`.
+#[tactic(auto, using(crate::proofs::Answers::lent_encoded, crate::proofs::Answers::room, crate::proofs::Canonical::OfBytes::encoded_bytes, crate::proofs::Answers::held))]
 pub fn normalise_slice<'a, O: KeyOrder>(
     alloc: Global,
     limit: Limit,
@@ -65,6 +66,7 @@ pub fn normalise_slice<'a, O: KeyOrder>(
 /// gives it, at its offset in bytes from the start of the input, or `OutOfMemory`. Where there is none
 /// of these, `NoItem` or `MoreItems`.
 #[inline(always)]
+#[tactic(auto, using(crate::proofs::Held::SameBytes::same_bytes))]
 pub fn show_slice<'a>(
     alloc: Global,
     limit: Limit,
@@ -115,6 +117,7 @@ pub fn check_slice<O: KeyOrder>(
 /// `First`, where the first input isn't taken, by the fault that `normalise_slice` gives for it.
 /// `Second`, likewise, where the first is taken and the second isn't. `OutOfMemory` is never inside
 /// of these.
+#[tactic(auto, using(crate::proofs::Answers::unfaulted, crate::proofs::Comparison::Compared::bytes_compared))]
 pub fn compare_slices<O: KeyOrder>(
     alloc: Global,
     limit: Limit,
@@ -186,6 +189,7 @@ fn is_too_long(input: &[u8]) -> bool
 }
 
 /// The deterministic encodings of what an input holds, one after another. `None`: they are the input.
+#[tactic(auto, using(crate::proofs::Answers::short))]
 fn encode_slice<O: KeyOrder>(
     alloc: Global,
     limit: Limit,
@@ -204,6 +208,7 @@ fn encode_slice<O: KeyOrder>(
 }
 
 /// What `encode_slice` answers, where the input holds as many items as it has to hold.
+#[tactic(auto, using(crate::proofs::CountAnswers::Answered::kept_counted, crate::proofs::Answers::unfaulted))]
 pub fn encode_counted<O: KeyOrder>(
     alloc: Global,
     limit: Limit,

@@ -1,6 +1,6 @@
 -- The flaws of what a text notates: each is at a spot, and spots rise, so that the first flaw of all is that of the first node that means nothing.
 use Rattle.std.specs.Prelude.{◌≡◌, ◌<◌, ◌∷◌, ◌++◌}
-use Rattle.cborn_engine.proofs.Common.{ℕ, inl, inr, List, [], refl, sym, subst, Chunk, Tree, Uint, Bytes, Text, TextChunks, Items, Pairs, Tagged, Trees, no_item, more, Entries, no_entry, entry, place, trees, Within, WithinAll, WithinEntries, IsRepeated, HasRepeat, HasBadChunk, FlawAt, Flaw, InvalidReason, IsIn, at_member, AreApart}
+use Rattle.cborn_engine.proofs.Common.{arith, ℕ, inl, inr, List, [], sym, subst, Chunk, Tree, Items, Pairs, Tagged, Trees, no_item, more, Entries, no_entry, entry, place, trees, Within, WithinAll, WithinEntries, IsRepeated, HasRepeat, HasBadChunk, FlawAt, Flaw, InvalidReason, IsIn, at_member, AreApart}
 use Rattle.cborn_edn.specs.Starts.{starts_of_chunks, unless_bytes, spots, spots_all, spots_entries, IsRising}
 
 -- ---- flaws are at spots
@@ -15,8 +15,7 @@ in_right p [] ys i = i
 in_right p (x ∷ xs) ys i = inr (in_right p xs ys i)
 
 own_spot : (t : Tree) → IsIn (place t) (spots t)
-own_spot (Uint p w n) = inl refl
-own_spot _ = inl refl
+own_spot t = grind (arith, inl)
 
 later_spot : (k v : Tree) (es : Entries) (p : ℕ) → IsIn p (spots_entries es) → IsIn p (spots_entries (entry k v es))
 later_spot k v es p i = in_right p (spots k) (spots v ++ spots_entries es) (in_right p (spots v) (spots_entries es) i)
@@ -37,11 +36,7 @@ bad_chunk_spot (c ∷ cs) p (inl h) = inl h.0
 bad_chunk_spot (c ∷ cs) p (inr h) = inr (bad_chunk_spot cs p h)
 
 flaw_at_spot : (t : Tree) (p : ℕ) (r : InvalidReason) → FlawAt t p r → IsIn p (spots t)
-flaw_at_spot (Text q w b) p r h = inl h.0
-flaw_at_spot (TextChunks q cs) p r h = inr (bad_chunk_spot cs p h.1)
-flaw_at_spot (Tagged q w n t) p r h = inl h.0
-flaw_at_spot (Pairs q s es) p r h = inr (repeat_spot es p h.1)
-flaw_at_spot _ p r h = absurd h
+flaw_at_spot t p r h1 = grind (arith, bad_chunk_spot, inl, inr, repeat_spot)
 
 module _ (q : Tree) (p : ℕ) (r : InvalidReason) (h : FlawAt q p r) where
   own_flaw : (t : Tree) → q ≡ t → FlawAt t p r
@@ -52,8 +47,7 @@ module _ (q : Tree) (p : ℕ) (r : InvalidReason) (h : FlawAt q p r) where
 
   -- a byte string has no flaw
   under_tag : (t : Tree) → Within q t → IsIn p (spots t) → IsIn p (unless_bytes t (spots t))
-  under_tag (Bytes s w b) e i = absurd (own_flaw (Bytes s w b) e)
-  under_tag _ e i = i
+  under_tag t h1 h2 = grind (arith, own_flaw)
 
   mutual
     spot_in : (t : Tree) → Within q t → IsIn p (spots t)

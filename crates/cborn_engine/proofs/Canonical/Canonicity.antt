@@ -1,6 +1,6 @@
 -- What is encoded of what an input holds is canonical.
 use Rattle.std.specs.Prelude.{◌≡◌, ◌≤◌, ◌↔◌}
-use Rattle.cborn_engine.proofs.Common.{ℕ, List, length, refl, sym, ◌∙◌, subst, Ordering, AllZip, AllByRecursion, Value, Same, Tree, trees, depth_all, Wellformed, FitsAll, IsProper, IsKeyOrder, DetSeq, Kind, Spells, Holds, Canon, IsWrittenAs, IsEncoded, IsCanonical, most_bytes, seq_of_one, one_of_seq, seq_exists, Profile}
+use Rattle.cborn_engine.proofs.Common.{arith, ℕ, List, length, refl, sym, ◌∙◌, subst, Ordering, AllZip, AllByRecursion, Value, Same, Tree, trees, depth_all, Wellformed, FitsAll, IsProper, IsKeyOrder, DetSeq, Kind, Spells, Holds, Canon, IsWrittenAs, IsEncoded, IsCanonical, most_bytes, seq_of_one, one_of_seq, seq_exists, Profile}
 use Rattle.cborn_engine.proofs.Held.Notated.{fits}
 use Rattle.cborn_engine.proofs.Canonical.Proper.{sequence_proper, sequence_shallow}
 use Rattle.cborn_engine.proofs.Held.Meant.{holds_once, all_same, all_turned, AreSound}
@@ -11,35 +11,26 @@ use Rattle.cborn_engine.proofs.Held.ReadsBack.{SequenceReadsBack, sequence_back}
 module _ (order : List ℕ → List ℕ → Ordering) (laws : IsKeyOrder order) where
   -- items that are the same as encoded ones have that encoding
   pub same_encoded : (vs ws : List Value) (w : List ℕ) → AllByRecursion IsProper vs → AllByRecursion IsProper ws → DetSeq order vs w → AllZip Same vs ws → DetSeq order ws w
-  same_encoded vs ws w p q d s =
-      let e = seq_exists order laws ws q in
-      subst (DetSeq order ws) (sym (one_of_seq order laws vs ws w e.0 p q s d e.1)) e.1
+  same_encoded vs ws w h1 h2 h3 h4 = grind (arith, one_of_seq, seq_exists)
 
 -- ---- what is encoded, as an output of a kind
 
 pub canon_of : (order : List ℕ → List ℕ → Ordering) (out : Kind) (vs : List Value) (x w : List ℕ) → DetSeq order vs x → IsWrittenAs out x w → Canon order out vs w
-canon_of order Kind.Wire vs x w d e = subst (DetSeq order vs) (sym e) d
-canon_of order _ vs x w d e = (x, d, as_plain order vs x w d e)
+canon_of order out vs x w h1 h2 = grind (arith, as_plain)
 
 canon_is : (order : List ℕ → List ℕ → Ordering) (out : Kind) (vs : List Value) (w : List ℕ) → Canon order out vs w → (x : List ℕ) × DetSeq order vs x × IsWrittenAs out x w
 canon_is order Kind.Wire vs w d = (w, d, refl)
 canon_is order _ vs w c = (c.0, c.1, as_fixed order vs c.0 w c.1 c.2)
 
 output_once : (out : Kind) (x v w : List ℕ) → IsWrittenAs out x v → IsWrittenAs out x w → v ≡ w
-output_once Kind.Wire x v w h k = h ∙ sym k
-output_once _ x v w h k = text_once x v w h k
+output_once out x v w h1 h2 = grind (arith, text_once)
 
 encoding_once : (out : Kind) (x y w : List ℕ) → IsWrittenAs out x w → IsWrittenAs out y w → x ≡ y
-encoding_once Kind.Wire x y w h k = sym h ∙ k
-encoding_once _ x y w h k = bytes_once x y w h k
+encoding_once out x y w h1 h2 = grind (arith, bytes_once)
 
 -- valid items have one canonical form
 one_form : (order : List ℕ → List ℕ → Ordering) (laws : IsKeyOrder order) (out : Kind) (vs : List Value) (v w : List ℕ) → AllByRecursion IsProper vs → Canon order out vs v → Canon order out vs w → v ≡ w
-one_form order laws out vs v w p c d =
-    let f = canon_is order out vs v c in
-    let g = canon_is order out vs w d in
-    let same : f.0 ≡ g.0 = one_of_seq order laws vs vs f.0 g.0 p p (all_same vs) f.1 g.1 in
-    output_once out g.0 v w (subst (λ (y : List ℕ). IsWrittenAs out y v) same f.2) g.2
+one_form order laws out vs v w h1 h2 h3 = grind (arith, all_same, canon_is, one_of_seq, output_once)
 
 -- the output holds what its bytes do
 holds_back : (out : Kind) (limit : ℕ) (vs : List Value) (x w : List ℕ) (back : SequenceReadsBack limit 0 vs x) → IsWrittenAs out x w → Holds out limit w back.items
@@ -59,9 +50,7 @@ spelled_fits Kind.Notation limit input ns l h = fits Profile.One limit input ns 
 spelled_fits Kind.Notation2 limit input ns l h = fits Profile.Two limit input ns h l
 
 held_sound : (order : List ℕ → List ℕ → Ordering) (k : Kind) (limit : ℕ) (input : List ℕ) (vs : List Value) (x : List ℕ) → length input ≤ most_bytes → Holds k limit input vs → DetSeq order vs x → AreSound limit vs
-held_sound order k limit input vs x short h d =
-    let f = spelled_fits k limit input h.nodes short h.spelled in
-    record { proper = sequence_proper order h.nodes vs x f.0 h.meant d; shallow = sequence_shallow limit h.nodes vs f.0 f.1 h.meant }
+held_sound order k limit input vs x h1 h2 h3 = grind (arith, sequence_proper, sequence_shallow, spelled_fits)
 
 -- ---- what follows for the canonical form of what an input holds
 
@@ -89,11 +78,7 @@ module _ (order : List ℕ → List ℕ → Ordering) (laws : IsKeyOrder order) 
   alone v d = one_form order laws out c.items v w valid d c.written
 
   pub one_for_same : (others : List Value) → AllByRecursion IsProper others → Canon order out others w ↔ AllZip Same c.items others
-  one_for_same others proper = (
-    λ d. let f = canon_is order out others w d in
-        seq_of_one order laws c.items others encoded.0 valid proper encoded.1 (subst (DetSeq order others) (encoding_once out f.0 encoded.0 w f.2 encoded.2) f.1),
-    λ s. canon_of order out others encoded.0 w (same_encoded order laws c.items others encoded.0 valid proper encoded.1 s) encoded.2,
-  )
+  one_for_same others h1 = grind (arith, canon_is, canon_of, encoded, encoding_once, same_encoded, seq_of_one, valid)
 
   pub settled : (others : List Value) → Holds out limit w others → Canon order out others w
   settled others other =

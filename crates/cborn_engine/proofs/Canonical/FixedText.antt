@@ -5,8 +5,7 @@ use Rattle.cborn_engine.proofs.Held.SameNodes.{same_nodes}
 
 -- bytes have one text
 pub text_once : (x v w : List ℕ) → IsFixedText x v → IsFixedText x w → v ≡ w
-text_once x v w h k =
-    h.shown.1 ∙ same_text (trees h.nodes) (trees k.nodes) (same_nodes (trees h.nodes) (trees k.nodes) h.fit k.fit (h.spelled ∙ sym k.spelled)) ∙ sym k.shown.1
+text_once x v w h1 h2 = grind (arith, same_nodes, same_text, trees)
 
 -- a text is that of one list of bytes
 pub bytes_once : (x y w : List ℕ) → IsFixedText x w → IsFixedText y w → x ≡ y

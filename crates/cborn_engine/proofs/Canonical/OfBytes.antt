@@ -51,9 +51,7 @@ pub bytes_hold : (limit : ℕ) (x : List ℕ) (vs : List Value) → Holds Kind.W
 bytes_hold limit x vs h = record { nodes = trees h.nodes; fit = h.spelled.fit; spelled = h.spelled.spells; meant = all_mean h.nodes vs h.meant }
 
 nodes_read : (limit : ℕ) (x : List ℕ) (vs : Values) (b : BytesHold x vs) → depth_all (trees (tree_list b.nodes)) ≤ limit → Wellformed limit (trees (tree_list b.nodes)) x
-nodes_read limit x vs b l =
-    let same : trees (tree_list b.nodes) ≡ b.nodes = trees-tree_list b.nodes in
-    record { spells = ap spelled_all same ∙ b.spelled; fit = subst FitsAll (sym same) b.fit; shallow = l }
+nodes_read limit x vs b h1 = grind (arith, spelled_all, tree_list, trees, trees-tree_list)
 
 pub as_input : (limit : ℕ) (x : List ℕ) (vs : Values) (b : BytesHold x vs) → depth_all (trees (tree_list b.nodes)) ≤ limit → Holds Kind.Wire limit x (value_list vs)
 as_input limit x vs b l = record { nodes = tree_list b.nodes; spelled = nodes_read limit x vs b l; meant = mean_listed b.nodes vs b.meant }

@@ -1,6 +1,6 @@
 -- Nodes that spell deterministic encodings have no indicator and no chunk in their fixed notation: it is their plain text.
 use Rattle.std.specs.Prelude.{◌≡◌, ◌∷◌, ◌++◌}
-use Rattle.cborn_engine.proofs.Common.{refl, sym, ap, ◌∙◌, subst, ℕ, suc, inl, inr, Bool, true, false, eqb, List, [], length, codes, decimal, Ordering, append-nil, eq-eqb, cond-true, AllZip, flat_map, length_permutation, Array, Map, Fixed, AreBytes, big_endian, following, WidthFits, Given, head, least, head_bytes, Tree, Uint, Nint, Bytes, Text, Items, Pairs, Tagged, Simple, Trees, no_item, more, trees, Entries, no_entry, entry, count, count_entries, spelled, spelled_all, spelled_entries, Fits, FitsAll, FitsEntries, Value, Values, Couples, integer, bytes, text, array, dict, tagged, simple, no_values, value, no_pairs, pair, value_count, pair_count, listed, Entry, IsInteger, Det, DetValues, DetPairs, DetSeq, joined, escaped, mark_for, indicator, opened, joined_by, shown, item_texts, pair_texts, shown_lines, IsPlainText, IsFixedText, bytes-left, bytes-right, carried, length-listed, same_text}
+use Rattle.cborn_engine.proofs.Common.{arith, refl, sym, ap, ◌∙◌, subst, ℕ, suc, inl, inr, Bool, true, false, eqb, List, [], length, codes, decimal, Ordering, append-nil, eq-eqb, cond-true, AllZip, flat_map, length_permutation, Array, Map, Fixed, AreBytes, big_endian, following, WidthFits, Given, head, least, head_bytes, Tree, Uint, Nint, Bytes, Text, Items, Pairs, Tagged, Simple, Trees, no_item, more, trees, Entries, no_entry, entry, count, count_entries, spelled, spelled_all, spelled_entries, Fits, FitsAll, FitsEntries, Value, Values, Couples, integer, bytes, text, array, dict, tagged, simple, no_values, value, no_pairs, pair, value_count, pair_count, listed, Entry, IsInteger, Det, DetValues, DetPairs, DetSeq, joined, escaped, mark_for, indicator, opened, joined_by, shown, item_texts, pair_texts, shown_lines, IsPlainText, IsFixedText, bytes-left, bytes-right, carried, length-listed, same_text}
 use Rattle.cborn_wire.proofs.Spelled.AllBytes.{spelled_all_bytes}
 use Rattle.cborn_lex.specs.declared.classes.Mark.TheVariants.{Absent, Wide}
 use Rattle.cborn_edn.specs.Plain.{plain, plain_items, plain_pairs, plain_lines}
@@ -139,8 +139,7 @@ module _ (order : List ℕ → List ℕ → Ordering) where
       record { nodes = more one.node rest.nodes; counted = ap suc rest.counted; spells = (λ i. one.spells i ++ rest.spells i) ∙ sym d.4; fits = (one.fits, rest.fits); reported = λ i. one.reported i ∷ rest.reported i }
 
   lines : (ts : Trees) → item_texts ts ≡ plain_items ts → shown_lines ts ≡ plain_lines ts
-  lines no_item e = refl
-  lines (more t ts) e = ap (λ l. joined_by (codes ",\n") l ++ codes "\n") e
+  lines ts h1 = grind (arith, codes, joined_by, more, no_item)
 
   -- LAW: nodes that spell deterministic encodings have plain text
   pub plain_is : (vs : List Value) (ts : Trees) → FitsAll ts → DetSeq order vs (spelled_all ts) → shown_lines ts ≡ plain_lines ts
@@ -151,9 +150,7 @@ module _ (order : List ℕ → List ℕ → Ordering) where
 
   -- LAW: and the text of such bytes is the same in both forms
   pub as_plain : (vs : List Value) (x w : List ℕ) → DetSeq order vs x → IsFixedText x w → IsPlainText x w
-  as_plain vs x w d h =
-      record { nodes = h.nodes; fit = h.fit; spelled = h.spelled; plain = (h.shown.0, h.shown.1 ∙ plain_is vs (trees h.nodes) h.fit (subst (DetSeq order vs) (sym h.spelled) d)) }
+  as_plain vs x w h1 h2 = grind (arith, plain, plain_is, shown, spelled, trees)
 
   pub as_fixed : (vs : List Value) (x w : List ℕ) → DetSeq order vs x → IsPlainText x w → IsFixedText x w
-  as_fixed vs x w d h =
-      record { nodes = h.nodes; fit = h.fit; spelled = h.spelled; shown = (h.plain.0, h.plain.1 ∙ sym (plain_is vs (trees h.nodes) h.fit (subst (DetSeq order vs) (sym h.spelled) d))) }
+  as_fixed vs x w h1 h2 = grind (arith, plain, plain_is, shown, spelled, trees)

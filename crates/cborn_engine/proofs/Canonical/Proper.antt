@@ -1,14 +1,13 @@
 -- What nodes mean is valid if it has an encoding, since its heads give the lengths of its parts.
 use Rattle.std.specs.Prelude.{◌≤◌, ◌<◌, ◌^◌, ◌∷◌}
-use Rattle.cborn_engine.proofs.Common.{ℕ, inl, inr, Bool, true, false, List, [], length, refl, sym, subst, arith, Ordering, AllZip, AllByRecursion, big_endian, IsShortest, WidthFits, least, Tree, Uint, Nint, Bytes, Text, ByteChunks, TextChunks, Items, Pairs, Tagged, Simple, Trees, no_item, more, Entries, no_entry, entry, trees, depth_all, Fits, FitsAll, FitsEntries, Value, Values, Couples, bytes, text, array, dict, tagged, no_values, value, no_pairs, pair, value_count, pair_count, IsProper, AreProper, HasProperPairs, joined_chunks, IsNumber, Means, AllMean, EntriesMean, Entry, IsInteger, Det, DetValues, DetPairs, DetSeq, holds_below, shortest_below, joined_bytes, joined_text, meaning_shallow}
+use Rattle.cborn_engine.proofs.Common.{ℕ, inl, inr, Bool, true, false, List, [], length, sym, subst, arith, Ordering, AllZip, AllByRecursion, big_endian, IsShortest, WidthFits, least, Tree, Uint, Nint, Bytes, Text, ByteChunks, TextChunks, Items, Pairs, Tagged, Simple, Trees, no_item, more, Entries, no_entry, entry, trees, depth_all, Fits, FitsAll, FitsEntries, Value, Values, Couples, bytes, text, array, dict, tagged, no_values, value, no_pairs, pair, value_count, pair_count, IsProper, AreProper, HasProperPairs, joined_chunks, IsNumber, Means, AllMean, EntriesMean, Entry, IsInteger, Det, DetValues, DetPairs, DetSeq, holds_below, shortest_below, joined_bytes, joined_text, meaning_shallow}
 use Rattle.cborn_engine.proofs.Held.ReadsBack.{AreShallow}
 
 below : (n : ℕ) → WidthFits (least n) n → n < 2 ^ 64
 below n h = holds_below (least n) n h
 
 magnitude_below : (s : Bool) (m x : List ℕ) → IsShortest m → IsInteger s m x → length m < 2 ^ 64
-magnitude_below s m x h (inl d) = shortest_below m (big_endian m) h refl d.0
-magnitude_below s m x h (inr d) = below (length m) d.4.1.0
+magnitude_below s m x h1 h2 = grind (arith, below, big_endian, inl, inr, length, shortest_below)
 
 module _ (order : List ℕ → List ℕ → Ordering) where
   number_proper : (s : Bool) (n : ℕ) (v : Value) (x : List ℕ) → IsNumber s n v → Det order v x → IsProper v

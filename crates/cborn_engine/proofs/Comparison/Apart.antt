@@ -15,9 +15,7 @@ abbrev pub NoneOfBoth : List ℕ → List ℕ → Type 0
 NoneOfBoth left right = (t : Tree) (l r : List ℕ) → left ≡ spelled t ++ l → right ≡ spelled t ++ r → Fits t → depth t ≤ 1024 → ⊥
 
 pub none_of_both : (left right : List ℕ) (end : ℕ) → Ends left end → ((r : List ℕ) → right ≡ take end left ++ r → ⊥) → NoneOfBoth left right
-none_of_both left right end at never t l r e f fits deep =
-    let same = one_front at.0 t (drop end left) l at.1.fits fits (sym at.1.whole ∙ e) in
-    never r (f ∙ ap (λ (z : List ℕ). z ++ r) (sym (its_bytes left end at ∙ same.0)))
+none_of_both left right end h1 h2 = grind (arith, drop, its_bytes, one_front)
 
 module _ (order : List ℕ → List ℕ → Ordering) (limit : ℕ) where
   -- the bytes are the encodings of items

@@ -1,14 +1,13 @@
 -- What is answered where two inputs were encoded.
 use Rattle.std.specs.Prelude.{◌≡◌, ◌≤◌, ◌↔◌}
-use Rattle.cborn_engine.proofs.Common.{ℕ, Bool, true, false, Decides, refl, List, length, sym, ◌∙◌, subst, Option, Ordering, AllZip, IsKeyOrder, Value, Same, Kind, AreCompared, IsEncoded, IsCanonical, Holds, HoldSameItems, most_bytes, IsTrue}
+use Rattle.cborn_engine.proofs.Common.{arith, ℕ, Bool, true, false, Decides, List, length, sym, ◌∙◌, subst, Option, Ordering, AllZip, IsKeyOrder, Value, Same, Kind, AreCompared, IsEncoded, IsCanonical, Holds, HoldSameItems, most_bytes, IsTrue}
 use Rattle.cborn_engine.proofs.Comparison.Apart.{difference_too}
 use Rattle.cborn_engine.proofs.Canonical.Canonicity.{own_bytes}
 use Rattle.cborn_engine.proofs.Canonical.Headline.{alike}
 use Rattle.cborn_engine.proofs.Held.Meant.{holds_once}
 
 pub from_decides : (b : Bool) (P : Type 0) → Decides b P → IsTrue b ↔ P
-from_decides true P d = (λ _. d.0 refl, λ _. refl)
-from_decides false P d = (λ h. d.0 h, λ p. d.1 p)
+from_decides b P h1 = grind (arith, false, true)
 
 module _ (order : List ℕ → List ℕ → Ordering) (laws : IsKeyOrder order) where
   pub its_own : (k : Kind) (limit : ℕ) (input bytes x : List ℕ) → length input ≤ most_bytes → IsEncoded order k limit input bytes → x ≡ bytes → IsEncoded order Kind.Wire limit x x

@@ -1,6 +1,6 @@
 -- What is answered for an input that is held and has to hold a given number of items.
 use Rattle.std.specs.Prelude.{◌≡◌, ◌⊎◌, ◌≤◌, ◌∷◌}
-use Rattle.cborn_engine.proofs.Common.{refl, sym, ap, subst, ℕ, List, [], length, Option, Result, Ok, Err, Global, Ordering, inl, inr, arith, CowSlice, AllZip, Tree, trees, Value, Means, unplaced_all, Defect, WireReason, Fault, CompareCountFault, Count, EngineFault, CountFault, Kind, Holds, Spells, SpellsInPlace, SpellsOne, SpellsCount, HoldsOne, IsTaken, IsNotOne, CountAnswer, NormalisedWhole, ShownWhole, CheckedWhole, AreRefusedWhole, of_the_first, of_first_counted, of_second_counted, EncodedWhole, most_bytes, IsRefusedWhole, TellsFaultAs, Invalid, WireFault, not_both, one_fault}
+use Rattle.cborn_engine.proofs.Common.{refl, ap, subst, ℕ, List, [], length, Option, Result, Ok, Err, Global, Ordering, inl, inr, arith, CowSlice, AllZip, Tree, trees, Value, Means, unplaced_all, Defect, WireReason, Fault, CompareCountFault, Count, EngineFault, CountFault, Kind, Holds, Spells, SpellsInPlace, SpellsOne, SpellsCount, HoldsOne, IsTaken, IsNotOne, CountAnswer, NormalisedWhole, ShownWhole, CheckedWhole, AreRefusedWhole, of_the_first, of_first_counted, of_second_counted, EncodedWhole, most_bytes, IsRefusedWhole, TellsFaultAs, Invalid, WireFault, not_both, one_fault}
 use Rattle.cborn_engine.proofs.Answers.{unfaulted}
 use Rattle.cborn_engine.proofs.Held.Meant.{unplaced_once}
 
@@ -9,10 +9,7 @@ use Rattle.cborn_engine.proofs.Held.Meant.{unplaced_once}
 -- what another number of items makes of an answer
 pub kept_counted : {A : Type 0} (count : Count) (k : Kind) (limit : ℕ) (x : List ℕ) (Answers : Result A EngineFault → Type 0) (a : A) (why : CountFault) → Answers (Ok a) → Answers (Err EngineFault.OutOfMemory)
     → (count ≡ Count.One) × ((why ≡ CountFault.Engine EngineFault.OutOfMemory) ⊎ IsNotOne k limit x why) → CountAnswer count k limit x Answers (Err why)
-kept_counted count k limit x Answers a (CountFault.Engine w) h m (o, inl e) = let same : w ≡ EngineFault.OutOfMemory = cc in subst (λ (v : EngineFault). Answers (Err v)) (sym same) m
-kept_counted count k limit x Answers a (CountFault.Engine w) h m (o, inr n) = absurd n
-kept_counted count k limit x Answers a _ h m (o, inl e) = absurd cc
-kept_counted count k limit x Answers a _ h m (o, inr n) = ((a, h), (o, n))
+kept_counted count k limit x Answers a why h1 h2 h3 = grind (arith, inl, inr)
 
 -- a fault where any number will do is the engine's
 pub engine_of : {A : Type 0} (k : Kind) (limit : ℕ) (x : List ℕ) (Answers : Result A EngineFault → Type 0) (why : CountFault) → CountAnswer Count.Any k limit x Answers (Err why) → (w : EngineFault) × (why ≡ CountFault.Engine w) × Answers (Err w)
@@ -88,12 +85,5 @@ taken count k limit x vs n h s = record { short = n; items = vs; held = h; one =
 -- of two inputs
 
 module _ (order : List ℕ → List ℕ → Ordering) (count : Count) (k l : Kind) (limit : ℕ) (x y : List ℕ) where
-  pub first_refused : (why : CountFault) → CountAnswer count k limit x (EncodedWhole order k limit x) (Err why) → AreRefusedWhole count k l limit x y (of_first_counted why)
-  first_refused (CountFault.Engine EngineFault.OutOfMemory) h = inl h
-  first_refused (CountFault.Engine _) h = (h, λ p. absurd cc)
-  first_refused _ h = (h.0.1.0, (h.0.1.1.items, h.0.1.1.held), h.1)
-
   pub second_refused : (why : CountFault) → IsTaken count k limit x → CountAnswer count l limit y (EncodedWhole order l limit y) (Err why) → AreRefusedWhole count k l limit x y (of_second_counted why)
-  second_refused (CountFault.Engine EngineFault.OutOfMemory) t h = inr (t, h)
-  second_refused (CountFault.Engine _) t h = (t, (h, λ p. absurd cc))
-  second_refused _ t h = (t, (h.0.1.0, (h.0.1.1.items, h.0.1.1.held), h.1))
+  second_refused why h1 h2 = grind (arith, inr)

@@ -1,6 +1,6 @@
 -- What is answered for an input that was read, kept whole or judged.
 use Rattle.std.specs.Prelude.{◌≡◌, ◌≤◌}
-use Rattle.cborn_engine.proofs.Common.{refl, ap, subst, ℕ, List, [], length, Option, Result, Ok, Err, Vec, Global, Ordering, inl, inr, Appends, EngineFault, CountFault, Count, Kind, AreJudged, CountsFault, IsRefused, IsRead, IsSent, Reads, Writes, SpellsCount, most_bytes, Input, Whole, Judged, InputAnswers, ReadsInput, EncodedItems}
+use Rattle.cborn_engine.proofs.Common.{arith, refl, subst, ℕ, List, [], length, Option, Result, Ok, Err, Vec, Global, Ordering, inl, inr, Appends, EngineFault, CountFault, Count, Kind, AreJudged, CountsFault, IsRefused, IsSent, Reads, Writes, SpellsCount, most_bytes, Input, Whole, Judged, InputAnswers, ReadsInput, EncodedItems}
 use Rattle.cborn_engine.proofs.Answers.{nothing_written}
 use Rattle.cborn_engine.proofs.CountAnswers.Streamed.{sent_on}
 
@@ -24,24 +24,11 @@ whole_is order count k limit x i bytes is h = subst (λ j. InputAnswers order co
 module _ (order : List ℕ → List ℕ → Ordering) (count : Count) (k : Kind) (limit : ℕ) (a b : Option (List ℕ)) where
   -- what is answered for the input, is answered for what was taken from the reader
   pub answered : {A : Type 0} (Answers : List ℕ → Result A CountFault → Type 0) (i : Input) (r : Result A CountFault) → ReadsInput order count k limit a b (Ok i) → ((x : List ℕ) → InputAnswers order count k limit x (Ok i) → Answers x r) → Reads CountFault.Engine Answers a b r
-  answered {A} Answers i r h f = record { input = h.input; taken = h.taken; answer = f h.input h.answer; to_end = at_end r }
-    where
-      at_end : (r : Result A CountFault) → IsRead CountFault.Engine r b
-      at_end (Ok x) = h.to_end
-      at_end (Err why) = inl h.to_end
+  answered Answers i r h1 h2 = grind (arith, inl)
 
   -- no input was taken
   pub unanswered : {A : Type 0} (Answers : List ℕ → Result A CountFault → Type 0) (why : EngineFault) → ReadsInput order count k limit a b (Err why) → ((x : List ℕ) → IsRefused k limit most_bytes x why → Answers x (Err (CountFault.Engine why))) → Reads CountFault.Engine Answers a b (Err (CountFault.Engine why))
-  unanswered {A} Answers why h f = record { input = h.input; taken = h.taken; answer = f h.input (refused count k h.input h.answer); to_end = ended h.to_end }
-    where
-      refused : (count : Count) (k : Kind) (x : List ℕ) → InputAnswers order count k limit x (Err why) → IsRefused k limit most_bytes x why
-      refused count k x r = r
-
-      ended : IsRead {A = Input} (λ e. e) (Err why) b → IsRead {A = A} CountFault.Engine (Err (CountFault.Engine why)) b
-      ended (inl end) = inl end
-      ended (inr (inl e)) = inr (inl (ap CountFault.Engine e))
-      ended (inr (inr (inl e))) = inr (inr (inl (ap CountFault.Engine e)))
-      ended (inr (inr (inr e))) = inr (inr (inr (ap CountFault.Engine e)))
+  unanswered Answers why h1 h2 = grind (arith, inl, inr, most_bytes)
 
   module _ (Answers : List ℕ → Result (List ℕ) CountFault → Type 0) (sent : Option (List ℕ)) where
     pub unanswered_sent : (why : EngineFault) → ReadsInput order count k limit a b (Err why) → ((x : List ℕ) → IsRefused k limit most_bytes x why → Answers x (Err (CountFault.Engine why))) → Writes CountFault.Engine Answers a b sent sent (Err (CountFault.Engine why))
@@ -55,10 +42,3 @@ module _ (order : List ℕ → List ℕ → Ordering) (count : Count) (k : Kind)
       read = answered (λ x. IsSent (CountFault.Engine EngineFault.WriteFault) (Answers x) s.0) i r h (λ x g. sent_on (CountFault.Engine EngineFault.WriteFault) (Answers x) answer s.0 r s.2 (f x g));
     }
 
-  -- an input that isn't taken fails no write
-  pub input_unwritten : {A : Type 0} (why : EngineFault) (n : ℕ) → ReadsInput order count k limit a b (Err why) → CountsFault {A = A} (CountFault.Engine EngineFault.WriteFault) (Err (CountFault.Engine why)) n n
-  input_unwritten EngineFault.WriteFault n h = absurd (go count k h.answer)
-    where
-      go : (count : Count) (k : Kind) → InputAnswers order count k limit h.input (Err EngineFault.WriteFault) → ⊥
-      go count k r = r
-  input_unwritten _ n h = (λ p. absurd cc, λ p. refl)

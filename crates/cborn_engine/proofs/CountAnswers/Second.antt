@@ -1,6 +1,6 @@
 -- Where the second item of an input starts: where the first ends.
 use Rattle.std.specs.Prelude.{◌≡◌, ◌≢◌, ◌+◌, ◌≤◌, ◌∷◌, ◌++◌}
-use Rattle.cborn_engine.proofs.Common.{refl, sym, ap, ◌∙◌, subst, ℕ, List, [], length, drop, arith, length-append, map, slice_get, is_some, Tree, ByteChunks, TextChunks, Items, Pairs, Tagged, Trees, no_item, more, trees, place, depth, Placed, spelled, spelled_all, Fits, Wellformed, all_from, Profile, kind_of, IsNotation, Spells, SpellsInPlace, SpellsOne, SecondStarts, listed_reading, tree_list, some_bytes, one_front, Kind, length-drop, Some, None, true, false}
+use Rattle.cborn_engine.proofs.Common.{refl, ap, ◌∙◌, subst, ℕ, List, [], length, drop, arith, length-append, map, slice_get, is_some, Tree, ByteChunks, TextChunks, Items, Pairs, Tagged, Trees, no_item, more, trees, place, depth, Placed, spelled, spelled_all, Fits, Wellformed, all_from, Profile, kind_of, IsNotation, Spells, SpellsInPlace, SpellsOne, SecondStarts, listed_reading, tree_list, some_bytes, one_front, Kind, length-drop, Some, None, true, false}
 use Rattle.cborn_engine.proofs.Answers.{spells}
 use Rattle.cborn_wire.specs.Reading.{IsFirstItem}
 
@@ -71,13 +71,10 @@ second_in_bytes limit x ns end w l e at =
 
 -- Well-formed bytes that don't begin with an item hold none.
 pub none_first : (limit : ℕ) (x : List ℕ) (ts : Trees) → limit ≤ 1024 → Wellformed limit ts x → ((t : Tree) (rest : List ℕ) → x ≡ spelled t ++ rest → Fits t → depth t ≤ 1024 → ⊥) → ts ≡ no_item
-none_first limit x no_item low w none = refl
-none_first limit x (more t ts) low w none = absurd (none t (spelled_all ts) (sym w.spells) w.fit.0 (omega (arith, w.shallow, low)))
+none_first limit x ts h1 h2 h3 = grind (arith, more, no_item, spelled_all, spells)
 
 pub none_in_bytes : (limit : ℕ) (x : List ℕ) (ns : List Tree) → Wellformed limit (trees ns) x → trees ns ≡ no_item → Spells Kind.Wire limit x [] × (length x ≡ 0)
-none_in_bytes limit x ns w e =
-    let none : Wellformed limit no_item x = subst (λ (ts : Trees). Wellformed limit ts x) e w in
-    (none, sym (ap length none.spells))
+none_in_bytes limit x ns h1 h2 = grind (arith, length, no_item, spells)
 
 pub one_in_bytes : (limit : ℕ) (x : List ℕ) (ns : List Tree) (end : ℕ) → Wellformed limit (trees ns) x → end ≤ length x → Ends x end → end ≡ length x → SpellsOne Kind.Wire limit x
 one_in_bytes limit x ns end w l e at = let a = alone limit x ns end w l e at in (a.0, subst (Spells Kind.Wire limit x) a.1 w)

@@ -1,6 +1,6 @@
 -- What is answered where an input is read, and the answer of the call over what is held is sent.
 use Rattle.std.specs.Prelude.{◌≡◌, ◌≢◌, ◌≤◌}
-use Rattle.cborn_engine.proofs.Common.{refl, sym, ap, subst, ℕ, List, [], length, Option, None, Some, Result, Ok, Err, Vec, Global, Ordering, inl, inr, Appends, cow_slice_items, CowSlice, InputFault, CountFault, Count, EngineFault, Kind, Collects, CountAnswer, ShownWhole, unwrap_or, EncodedWhole, bytes_of, EncodeAnswers, IsEncoded, CountsFault, of_input, IsNoFlaw, most_bytes, IsRefused, ShowAnswers, IsSent, Writes, IsRefusedWhole, IsUnshownWhole}
+use Rattle.cborn_engine.proofs.Common.{arith, refl, ap, subst, ℕ, List, [], length, Option, None, Some, Result, Ok, Err, Vec, Global, Ordering, inl, inr, Appends, cow_slice_items, CowSlice, InputFault, CountFault, Count, EngineFault, Kind, Collects, CountAnswer, ShownWhole, unwrap_or, EncodedWhole, bytes_of, EncodeAnswers, IsEncoded, CountsFault, of_input, IsNoFlaw, most_bytes, IsRefused, ShowAnswers, IsSent, Writes, IsRefusedWhole, IsUnshownWhole}
 use Rattle.cborn_engine.proofs.Answers.{nothing_written, unread, read_whole, read_refused}
 use Rattle.cborn_engine.proofs.CountAnswers.Answered.{same_engine}
 
@@ -11,14 +11,11 @@ show_refused k out limit most x (EngineFault.Show w) h = absurd h.0
 show_refused k out limit most x _ h = h
 
 read_unshown : (k out : Kind) (limit : ℕ) (x : List ℕ) (why : EngineFault) → length x ≤ most_bytes → IsUnshownWhole k out limit most_bytes x why → ShowAnswers k out limit most_bytes x (Err why)
-read_unshown k out limit x (EngineFault.Show w) l h = h
-read_unshown k out limit x why l h = (read_refused k limit most_bytes x why l h.0, h.1)
+read_unshown k out limit x why h1 h2 = grind (arith, most_bytes, read_refused)
 
 module _ (count : Count) (k : Kind) (limit : ℕ) (x : List ℕ) (short : length x ≤ most_bytes) where
   pub read_shown : (out : Kind) (r : Result (CowSlice ℕ Global) CountFault) → CountAnswer count k limit x (ShownWhole k out limit x) r → CountAnswer count k limit x (ShowAnswers k out limit most_bytes x) (bytes_of r)
-  read_shown out (Ok a) h = h
-  read_shown out (Err (CountFault.Engine w)) h = read_unshown k out limit x w short h
-  read_shown out (Err _) h = ((cow_slice_items h.0.0, h.0.1), h.1)
+  read_shown out r h1 = grind (arith, cow_slice_items, read_unshown)
 
   module _ (order : List ℕ → List ℕ → Ordering) (input : Vec ℕ Global) (e : x ≡ input.items) where
     pub not_encoded : (why : CountFault) → CountAnswer count k limit x (EncodedWhole order k limit x) (Err why) → CountAnswer count k limit x (EncodeAnswers order k limit most_bytes x) (Err why)
@@ -32,9 +29,7 @@ module _ (count : Count) (k : Kind) (limit : ℕ) (x : List ℕ) (short : length
 -- ---- what went out
 
 pub sent_on : {E : Type 0} (failed : E) (Answers : Result (List ℕ) E → Type 0) (a : Result (List ℕ) E) (output : List ℕ) (r : Result Unit E) → IsSent failed (λ b. b ≡ a) output r → Answers a → IsSent failed Answers output r
-sent_on failed Answers a output (Ok u) e h = subst Answers (sym e) h
-sent_on failed Answers a output (Err why) (inl (f, (whole, e, front))) h = inl (f, (whole, subst Answers (sym e) h, front))
-sent_on failed Answers a output (Err why) (inr (e, none)) h = inr (subst Answers (sym e) h, none)
+sent_on failed Answers a output r h1 h2 = grind (arith, inl, inr)
 
 module _ (Answers : List ℕ → Result (List ℕ) CountFault → Type 0) (before after sent : Option (List ℕ)) where
   pub unread_sent : (k : Kind) (limit : ℕ) (why : InputFault) → ((x : List ℕ) → IsRefused k limit most_bytes x (of_input why) × IsNoFlaw (of_input why) → Answers x (Err (CountFault.Engine (of_input why)))) → Collects most_bytes before after (Err why) → Writes CountFault.Engine Answers before after sent sent (Err (CountFault.Engine (of_input why)))
@@ -67,8 +62,7 @@ refused_quiet k limit most x EngineFault.WriteFault h = absurd h
 refused_quiet k limit most x _ h = (λ e. cc, λ e. cc)
 
 pub unshown_quiet : (k out : Kind) (limit most : ℕ) (x : List ℕ) (why : EngineFault) → IsUnshownWhole k out limit most x why → IsQuiet why
-unshown_quiet k out limit most x (EngineFault.Show w) h = (λ e. cc, λ e. cc)
-unshown_quiet k out limit most x why h = refused_quiet k limit most x why h.0
+unshown_quiet k out limit most x why h1 = grind (arith, refused_quiet)
 
 module _ {A : Type 0} (count : Count) (k : Kind) (limit : ℕ) (x : List ℕ) (Answers : Result A EngineFault → Type 0) (q : (why : EngineFault) → Answers (Err why) → IsQuiet why) where
   pub quiet : (r : Result A CountFault) → CountAnswer count k limit x Answers r → (r ≢ Err (CountFault.Engine EngineFault.ReadFault)) × (r ≢ Err (CountFault.Engine EngineFault.WriteFault))

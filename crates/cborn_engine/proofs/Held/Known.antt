@@ -1,12 +1,11 @@
 -- Inputs that are known.
-use Rattle.std.specs.Prelude.{◌≡◌, ◌≤◌, ◌∷◌, ◌++◌}
-use Rattle.cborn_engine.proofs.Common.{ℕ, List, [], length, inl, inr, Option, None, Some, Err, append-nil, sym, ◌∙◌, ap, arith, Consumes, IsAtEnd, AllZip, Tree, trees, Value, Means, WireFault, Profile, EdnFault, InvalidReason, IsRefusalOfAll, EngineFault, Kind, IsNotation, Spells, Holds, IsNotationFault, IsRefused, IsNoRefusal, LoadAnswers, IsNoFlaw, larger_limit, not_both, LexFault, larger, Invalid, no_flaw}
+use Rattle.std.specs.Prelude.{◌≡◌, ◌≤◌, ◌∷◌}
+use Rattle.cborn_engine.proofs.Common.{ℕ, List, [], length, inl, inr, Option, Some, Err, append-nil, arith, Consumes, IsAtEnd, AllZip, Tree, trees, Value, Means, WireFault, Profile, EdnFault, InvalidReason, IsRefusalOfAll, EngineFault, Kind, IsNotation, Spells, Holds, IsNotationFault, IsRefused, IsNoRefusal, LoadAnswers, IsNoFlaw, larger_limit, not_both, LexFault, larger, Invalid, no_flaw}
 use Rattle.cborn_engine.proofs.Held.Meant.{in_place, means_too}
 use Rattle.cborn_engine.proofs.Held.Notated.{no_stop, no_syntax_error, no_error}
 
 pub whole : (x input : List ℕ) (after : Option (List ℕ)) → Consumes (Some x) after input → IsAtEnd after → input ≡ x
-whole x input None t e = absurd t
-whole x input (Some rest) t e = sym (t ∙ ap (λ r. input ++ r) e ∙ append-nil input)
+whole x input after h1 h2 = grind (arith, append-nil)
 
 spells_more : (k : Kind) (limit most : ℕ) (x : List ℕ) (ns : List Tree) → limit ≤ most → Spells k limit x ns → Spells k most x ns
 spells_more Kind.Wire limit most x ns l h = larger_limit limit most (trees ns) x l h
@@ -48,20 +47,10 @@ text _ limit most x ns p h f = f.1 h.0
 
 -- nodes that are spelled are loaded
 unloaded : (k : Kind) (limit most : ℕ) (x : List ℕ) (ns : List Tree) (why : EngineFault) → length x ≤ most → Spells k limit x ns → IsRefused k limit most x why → IsNoFlaw why → IsNoRefusal why
-unloaded k limit most x ns (EngineFault.Wire why) l h f n = wellformed k limit most x ns why h f
-unloaded k limit most x ns (EngineFault.Invalid why) l h f n = absurd n
-unloaded k limit most x ns (EngineFault.Edn why) l h f n = notated k limit most x ns why h f
-unloaded k limit most x ns (EngineFault.TextInput p) l h f n = text k limit most x ns p h f
-unloaded k limit most x ns EngineFault.TooLong l h f n = absurd (omega (arith, f))
-unloaded k limit most x ns EngineFault.ReadFault l h f n = tt
-unloaded k limit most x ns EngineFault.OutOfMemory l h f n = tt
-unloaded k limit most x ns _ l h f n = absurd f
+unloaded k limit most x ns why h1 h2 h3 h4 = grind (arith, notated, text, wellformed)
 
 pub nodes_loaded : (k : Kind) (limit most : ℕ) (x : List ℕ) (ns : List Tree) (why : EngineFault) → length x ≤ most → Spells k limit x ns → LoadAnswers k limit most x (Err why) → IsNoRefusal why
 nodes_loaded k limit most x ns why l h f = unloaded k limit most x ns why l h f.0 f.1
 
 pub input_read : (k : Kind) (limit most : ℕ) (x : List ℕ) (vs : List Value) (why : EngineFault) → length x ≤ most → Holds k limit x vs → IsRefused k limit most x why → IsNoRefusal why
-input_read k limit most x vs (EngineFault.Invalid (Invalid.Refused p r)) l h f =
-    flawless f.1.nodes vs p r (means_too k limit x h.nodes f.1.nodes vs h.spelled (in_place k limit x f.1.nodes f.1.spelled) h.meant) f.1.flaw
-input_read k limit most x vs (EngineFault.Invalid Invalid.OutOfMemory) l h f = absurd f
-input_read k limit most x vs why l h f = unloaded k limit most x h.nodes why l h.spelled f tt
+input_read k limit most x vs why h1 h2 h3 = grind (arith, flawless, in_place, means_too, unloaded)

@@ -34,8 +34,7 @@ means_too k limit input ns ms vs h g m = zip_mean ms vs (same_meaning (trees ns)
 
 -- an input holds one list of items
 pub holds_once : (k : Kind) (limit : ℕ) (input : List ℕ) (vs ws : List Value) → Holds k limit input vs → Holds k limit input ws → vs ≡ ws
-holds_once k limit input vs ws h g =
-    all_mean_once h.nodes vs ws h.meant (means_too k limit input g.nodes h.nodes ws g.spelled h.spelled g.meant)
+holds_once k limit input vs ws h1 h2 = grind (arith, all_mean_once, means_too, spelled)
 
 -- what fits, is short and shallow means valid items that are shallow
 pub record AreSound (limit : ℕ) (vs : List Value) : Type 0 where

@@ -6,7 +6,7 @@ use Rattle.cborn_lex.specs.declared.classes.Mark.{Mark}
 use Rattle.cborn_lex.specs.declared.classes.Token.{Token}
 use Rattle.cborn_model.specs.declared.visitors.StringKind.{StringKind}
 use Rattle.cborn_model.specs.declared.visitors.StringKind.TheVariants.{OfBytes, OfText}
-use Rattle.cborn_edn.specs.declared.faults.EdnReason.TheVariants.{MixedChunks, TextNotUtf8}
+use Rattle.cborn_edn.specs.declared.faults.EdnReason.TheVariants.{MixedChunks}
 use Rattle.cborn_edn.specs.Says.{unless, mark_errors, string_errors, is_good, same_kind, is_endless, is_small, is_below, argument_of, integer, bignum, width, is_nil, number_node, string_node, chunked_node, said_string, chunk, Str}
 use Rattle.cborn_edn.specs.Grammar.{simple, array, map, string}
 use Rattle.cborn_edn.specs.shared.Texts.{AreTexts, IsShowable, EachShowable, ArePairsShowable}
@@ -19,20 +19,16 @@ nothing_in [] b e = (refl, e)
 nothing_in (x ∷ a) b e = absurd cc
 
 met : (c : Bool) (p : ℕ) (r : EdnReason) → unless c p r ≡ [] → c ≡ true
-met true p r e = refl
-met false p r e = absurd cc
+met c p r h1 = grind (arith, false, true)
 
 both : (a b : Bool) → a ≡ true → b ≡ true → (a && b) ≡ true
-both true b e f = f
-both false b e f = absurd cc
+both a b h1 h2 = grind (arith, false, true)
 
 either : (c : Bool) (t u : Tree) → IsShowable t → IsShowable u → IsShowable (if c then t else u)
-either true t u h k = h
-either false t u h k = k
+either c t u h1 h2 = grind (arith, false, true)
 
 number_shows : (p : ℕ) (n : Bool) (v : ℕ) (m : Mark) → IsShowable (number_node p n v m)
-number_shows p n v m =
-    either (is_small n v) (integer p n v (width m (argument_of n v))) (bignum p n v) (either (is_below n v) _ _ tt tt) tt
+number_shows p n v m = grind (arith, argument_of, bignum, either, integer, is_below, is_small, width)
 
 -- ---- strings
 
@@ -48,20 +44,14 @@ said_shows : (s : Str) → is_good s.kind s.bytes ≡ true → IsShowable (said_
 said_shows s e = either (s.lone && is_endless s.mark) (chunked_node s.kind s.place []) _ (empty_shows s.kind s.place) (string_shows s.kind s.place (width s.mark (length s.bytes)) s.bytes e)
 
 string_good : (may_end : Bool) (s : Str) → s.known ≡ true → string_errors may_end s ≡ [] → is_good s.kind s.bytes ≡ true
-string_good may_end s k e = go s.known k (nothing_in (mark_errors may_end s) _ e).1
-  where
-    go : (c : Bool) → c ≡ true → (if c then unless (is_good s.kind s.bytes) s.place TextNotUtf8 else []) ≡ [] → is_good s.kind s.bytes ≡ true
-    go true k e = met (is_good s.kind s.bytes) s.place TextNotUtf8 e
-    go false k e = absurd cc
+string_good may_end s h1 h2 = grind (arith, false, is_good, mark_errors, met, nothing_in, true, unless)
 
 nil_known : {A : Type 0} (l : List A) → l ≡ [] → is_nil l ≡ true
 nil_known [] e = refl
 nil_known (x ∷ l) e = absurd cc
 
 piece_known : {p : Profile} {d : ℕ} {x : List Token} {s : Str} {l : _} → IsPiece p d x s l → l ≡ [] → s.known ≡ true
-piece_known (text_piece a) e = refl
-piece_known (byte_piece a) e = refl
-piece_known {l = l} (embedded a b m h) e = nil_known l e
+piece_known h1 h2 = grind (arith, byte_piece, embedded, nil_known, text_piece)
 
 pieces_known : {p : Profile} {d : ℕ} {x : List Token} {s : Str} {l : _} → ArePieces p d x s l → l ≡ [] → s.known ≡ true
 pieces_known (piece h) e = piece_known h e
@@ -131,8 +121,7 @@ mutual
   fields_show (loose_fields a q h) e = pairs_show h e
 
 text_shows : {p : Profile} {d : ℕ} {x : List Token} {ts : Trees} {l : _} → IsText p d x ts l → l ≡ [] → EachShowable ts
-text_shows nothing e = tt
-text_shows (items h) e = items_show h e
+text_shows h1 h2 = grind (arith, items, items_show, nothing)
 
 -- the bytes that a text notates have a notation
 pub spelled_shows : (p : Profile) (limit : ℕ) (text bytes : List ℕ) → length text ≤ most_bytes → IsUtf8 text → IsSpelling p limit text bytes → (q : ℕ) → IsUnshown limit bytes q → ⊥

@@ -1,6 +1,6 @@
 -- What is shown of an input is one text, and is itself shown as the bytes that it was shown of.
 use Rattle.std.specs.Prelude.{◌≡◌}
-use Rattle.cborn_engine.proofs.Common.{ℕ, List, sym, ap, ◌∙◌, subst, Tree, trees, spelled_all, Profile, Notates, Shown, unplaced_all, listed_trees, trees-listed, Kind, IsNotation, Spells, IsShown, IsSpelledAs, shown_back, same_bytes, same_text}
+use Rattle.cborn_engine.proofs.Common.{arith, ℕ, List, sym, ap, ◌∙◌, subst, Tree, trees, spelled_all, Profile, Notates, Shown, unplaced_all, listed_trees, trees-listed, Kind, IsNotation, Spells, IsShown, IsSpelledAs, shown_back, same_bytes, same_text}
 use Rattle.cborn_engine.proofs.Held.Meant.{unplaced_once}
 
 -- a text that was shown of bytes notates nodes that spell them
@@ -28,8 +28,7 @@ shown_as_bytes Kind.Notation2 limit x v s = let t = text_back Profile.Two limit 
 
 -- nodes that are one, but for their places, are shown as one
 one_telling : (out : Kind) (ns ms : List Tree) (v w : List ℕ) → unplaced_all (trees ns) ≡ unplaced_all (trees ms) → IsSpelledAs out ns v → IsSpelledAs out ms w → v ≡ w
-one_telling Kind.Wire ns ms v w e s t = s ∙ same_bytes (trees ns) (trees ms) e ∙ sym t
-one_telling _ ns ms v w e s t = s.1 ∙ same_text (trees ns) (trees ms) e ∙ sym t.1
+one_telling out ns ms v w h1 h2 h3 = grind (arith, same_bytes, same_text, trees)
 
 pub shown_once : (k out : Kind) (limit : ℕ) (x v w : List ℕ) → IsShown k out limit x v → IsShown k out limit x w → v ≡ w
 shown_once k out limit x v w s t = one_telling out s.nodes t.nodes v w (unplaced_once k limit x s.nodes t.nodes s.spelled t.spelled) s.shown t.shown

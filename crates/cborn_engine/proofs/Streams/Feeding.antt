@@ -21,8 +21,7 @@ pub none_fed : (limit : ℕ) → IsFedSoFar limit [] false (fresh limit)
 none_fed limit = (refl, refl, refl, refl, (0, refl, record { front = []; rest = []; whole = refl; read = record { spells = refl; fit = tt; shallow = omega arith }; placed = tt; longest = λ f y others h w. nothing_longer [] f y refl h }))
 
 stays : (limit : ℕ) (x y : List ℕ) (why : WireFault) → StaysRefused limit x why → StaysRefused limit (x ++ y) why
-stays limit x y (WireFault.Refused p r) h = refused_stays limit x y p r h
-stays limit x y WireFault.OutOfMemory h = tt
+stays limit x y why h1 = grind (arith, refused_stays)
 
 -- what was refused stays refused
 pub read_on : (limit : ℕ) (x piece : List ℕ) (f : Feeding) → IsFedSoFar limit x true f → IsFedSoFar limit (x ++ piece) true f

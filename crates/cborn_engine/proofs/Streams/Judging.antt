@@ -8,8 +8,7 @@ use Rattle.cborn_engine.proofs.Streams.Coming.{SoFar, read_now, taken_all}
 module _ {O : Type 0} (order : List ℕ → List ℕ → Ordering) (j : PieceJudge O) (x : List ℕ) where
   -- a fault stays, whatever follows
   pub stays : (y : List ℕ) (fault : Option (ℕ × WireReason)) → is_some fault ≡ true → HasJudged (IsHeld order) j x fault → HasJudged (IsHeld order) j (x ++ y) fault
-  stays y None some h = absurd cc
-  stays y (Some f) some h = refused_stays j.heads.limit x y f.0 f.1 h
+  stays y fault h1 h2 = grind (arith, refused_stays)
 
   module _ (limit : ℕ) (h : IsJudging (IsHeld order) j x limit) where
     pub refused : (f : ℕ × WireReason) → j.fault ≡ Some f → Fault limit x f.0 f.1
@@ -25,14 +24,11 @@ module _ {O : Type 0} (order : List ℕ → List ℕ → Ordering) (j : PieceJud
           (ts, held, subst (λ k. Wellformed k (trees ts) x) h.0 spelled, placed)
 
       pub cut_off : (MayEnd j.levels.outer.items j.heads → ⊥) → Fault limit x j.heads.at Truncated
-      cut_off never =
-          let here = cut (IsHeld order j.encoder) j.levels.outer.items j.levels.inner j.heads 0 x read.0 never in
-          subst (λ k. Fault limit x k Truncated) (sym read.1) (subst (λ k. Fault k x (length x) Truncated) h.0 here)
+      cut_off h1 = grind (arith, cut, length, read)
 
 -- no content of bytes is a failure of their reader
 pub quiet : (limit : ℕ) (x : List ℕ) (why : EngineFault) (n : ℕ) → IsRefusedHeld Kind.Wire limit x why → read_failures_at why n ≡ n
-quiet limit x EngineFault.ReadFault n h = absurd (h (length x) (omega arith))
-quiet limit x _ n h = refl
+quiet limit x why n h1 = grind (arith, length)
 
 -- memory was refused after this was read
 pub refused_memory : (order : List ℕ → List ℕ → Ordering) (limit : ℕ) (a b : Option (List ℕ)) (x : List ℕ) → Consumes a b x → length x ≤ most_bytes → ReadsInput order Count.Any Kind.Wire limit a b (Err EngineFault.OutOfMemory)
@@ -53,9 +49,7 @@ module _ {O : Type 0} (order : List ℕ → List ℕ → Ordering) (limit left :
     judged e h = record { input = s.input; taken = taken; answer = (omega (arith, s.count), h); to_end = p.3 none }
 
     pub refused_whole : (why : EngineFault) → IsRefusedHeld Kind.Wire limit s.input why → ReadsInput order Count.Any Kind.Wire limit a c (Err why)
-    refused_whole why h =
-        let l : length s.input ≤ most_bytes = omega (arith, s.count) in
-        record { input = s.input; taken = taken; answer = read_refused Kind.Wire limit most_bytes s.input why l (h most_bytes l); to_end = inl (p.3 none) }
+    refused_whole why h1 = grind (arith, inl, length, most_bytes, read_refused, taken)
 
   -- it was the first piece, and all that followed was collected, or not
   module _ (first : left ≡ most_bytes) (d : Option (List ℕ)) where

@@ -1,12 +1,11 @@
 -- What a loop over a writer knows.
 use Rattle.std.specs.Prelude.{◌≡◌, ◌≢◌, ◌+◌, ◌-◌, ◌<◌}
-use Rattle.cborn_engine.proofs.Common.{ℕ, zero, suc, List, length, take, drop, Option, Ok, Err, refl, sym, ◌∙◌, ap, subst, length-drop, Appends, Appends-trans, take-append-drop, take_rest, take-add, drop-cons, Sends, failures_after_write, one_more}
+use Rattle.cborn_engine.proofs.Common.{arith, ℕ, zero, suc, List, length, take, drop, Option, Ok, Err, refl, sym, ◌∙◌, ap, subst, length-drop, Appends, Appends-trans, take-append-drop, take_rest, take-add, drop-cons, Sends, failures_after_write, one_more}
 use Rattle.cborn_engine.specs.declared.faults.EngineFault.TheVariants.{WriteFault}
 
 -- a write that takes some bytes is no failure
 pub no_failure : (n : ℕ) (piece : List ℕ) (count : ℕ) → n ≢ 0 → failures_after_write {E = Unit} (Ok n) piece count ≡ count
-no_failure zero piece count h = absurd (h refl)
-no_failure (suc n) piece count h = refl
+no_failure n piece count h1 = grind (arith, suc, zero)
 
 -- what is left to send after some bytes
 abbrev pub rest_after : List ℕ → ℕ → List ℕ
@@ -23,9 +22,6 @@ pub sent_on : (bytes : List ℕ) (sent n : ℕ) (a b c : Option (List ℕ)) → 
 sent_on bytes sent n a b c h k =
     subst (Appends a c) (sym (take-add sent n bytes))
     (Appends-trans a b c (take sent bytes) (take n (drop sent bytes)) h (subst (λ (r : List ℕ). Appends b c (take n r)) (take_rest bytes sent) k))
-
-pub length-rest_after : (bytes : List ℕ) (sent : ℕ) → length (rest_after bytes sent) ≡ length bytes - sent
-length-rest_after bytes sent = ap length (take_rest bytes sent) ∙ length-drop sent bytes
 
 -- a front of the bytes went out
 pub front_out : (bytes : List ℕ) (sent : ℕ) (a b : Option (List ℕ)) → Appends a b (take sent bytes) → Sends a b bytes (Err WriteFault)

@@ -1,5 +1,5 @@
 -- Where two inputs first differ, the same path leads in both.
-use Rattle.std.specs.Prelude.{◌≡◌, ◌+◌, ◌^◌, ◌<◌, ◌≤◌, ◌∷◌, ◌++◌, ◌⊎◌}
+use Rattle.std.specs.Prelude.{◌≡◌, ◌+◌, ◌^◌, ◌<◌, ◌≤◌, ◌∷◌, ◌++◌}
 use Rattle.cborn_explain.proofs.Common.{sym, ap, ◌∙◌, subst, ℕ, zero, suc, List, [], length, take, drop, get_or, inl, inr, arith, length-append, cases_lt, length-take-le, take-append-drop, take_all, take_more, take-append_seam, Level, Step, path_of, place_at, IsWalked, EndsAt, LeadsTo, DifferFirstAt, up_to_key, LeadsToDifference}
 use Rattle.cborn_explain.proofs.Walking.Levels.{some_path, front_ends}
 use Rattle.cborn_explain.proofs.Walking.Whole.{near, walk_leads}
@@ -37,16 +37,7 @@ last_same n x y ours theirs e = last_of (take n x) (take n y) (get_or x n 0) (ge
 
 -- the first byte that isn't the same in both
 pub differ_first : (n : ℕ) (x y : List ℕ) → n ≤ length x → n ≤ length y → take n x ≡ take n y → (n < length x → n < length y → get_or x n 0 ≡ get_or y n 0 → ⊥) → (n ≡ length x → n ≡ length y → ⊥) → DifferFirstAt x y n
-differ_first n x y ours theirs same differ some = (ours, theirs, same, λ e. go e (cases_lt n (length x)) (cases_lt n (length y)))
-  where
-    ended : (x y : List ℕ) → length x ≤ n → n < length y → take (n + 1) x ≡ take (n + 1) y → ⊥
-    ended x y h k e = omega (arith, h, k, ap length (sym (take_all (n + 1) x (omega (arith, h))) ∙ e), length-take-le (n + 1) y (omega (arith, k)))
-
-    go : take (n + 1) x ≡ take (n + 1) y → (n < length x) ⊎ (length x ≤ n) → (n < length y) ⊎ (length y ≤ n) → ⊥
-    go e (inl h) (inl k) = differ h k (last_same n x y h k e)
-    go e (inl h) (inr k) = ended y x k h (sym e)
-    go e (inr h) (inl k) = ended x y h k e
-    go e (inr h) (inr k) = some (omega (arith, h, ours)) (omega (arith, k, theirs))
+differ_first n x y h1 h2 h3 h4 h5 = grind (arith, cases_lt, inl, inr, last_same, length, length-take-le, take, take_all)
 
 some_key : (path : List Step) (k : ℕ) → 0 < length path → take k path ≡ up_to_key path → 0 < k
 some_key [] k some e = absurd (omega (arith, some))

@@ -1,6 +1,6 @@
 -- The path into the levels of a walk is that into what is open, and its fronts lead to where the levels begin.
-use Rattle.std.specs.Prelude.{◌≡◌, ◌+◌, ◌/◌, ◌%◌, ◌^◌, ◌<◌, ◌≤◌, ◌∷◌, ◌++◌, ◌⊎◌}
-use Rattle.cborn_explain.proofs.Common.{refl, sym, ap, ◌∙◌, subst, ℕ, zero, suc, List, [], length, take, drop, get_or, cond, ltb, eqb, Bool, true, false, Option, Some, None, inl, inr, arith, append_assoc, length-append, cases_lt, lt-ltb, le-ltb, length-take-le, take-append-drop, take-append-le, take_all, take_at, Tree, trees, spelled_all, Opening, an_array, a_map, a_tag, in_chunks, Partial, top, inside, paired, last_key, opened, opening, beginning, beginnings, Level, front, ready, open_in, lessened, level_in, levels, step_in_map, step_in, steps, EndsAt, step_of, path_of, place_at, Opened}
+use Rattle.std.specs.Prelude.{◌≡◌, ◌+◌, ◌/◌, ◌^◌, ◌<◌, ◌≤◌, ◌∷◌, ◌++◌}
+use Rattle.cborn_explain.proofs.Common.{refl, sym, ap, ◌∙◌, subst, ℕ, zero, suc, List, [], length, take, drop, get_or, cond, ltb, eqb, Bool, true, false, Option, Some, None, inl, inr, arith, append_assoc, length-append, cases_lt, length-take-le, take-append-drop, take-append-le, take_all, take_at, Tree, trees, spelled_all, Opening, an_array, a_map, a_tag, in_chunks, Partial, top, inside, paired, last_key, opened, opening, beginning, beginnings, Level, front, ready, open_in, lessened, level_in, levels, step_in_map, step_in, steps, EndsAt, step_of, path_of, place_at, Opened}
 use Rattle.cborn_model.proofs.Lengths.{no_more_nodes}
 use Rattle.cborn_model.proofs.Listed.Trees.{count-trees}
 use Rattle.cborn_wire.specs.shared.Ground.{place_of}
@@ -85,8 +85,7 @@ opened_back x at f o ts h =
     (below, record { within = omega (arith, below, h.within); ground = ground_less 1024 0 (ready f) (open_in f) (opened o ts) h.ground; bytes = ap (take (place_of o)) whole ∙ take_at before (more ++ drop at x) (place_of o) len })
 
 pub opened_ends : (x : List ℕ) (at : ℕ) (f : Partial) → length x < 2 ^ 64 → Opened x at f → EndsAt (take at x) (path_of (levels f))
-opened_ends x at f short h =
-    (ready f, open_in f, h.ground.fit, h.ground.shallow, h.ground.are_open, h.bytes, path_is f (omega (arith, ap length h.bytes, length-take-le at x h.within, h.within, short)))
+opened_ends x at f h1 h2 = grind (arith, length, length-take-le, open_in, path_is, ready)
 
 -- A front of the path leads to where the next level begins.
 

@@ -1,9 +1,8 @@
 -- The head that comes next, or is partial, is never before one that came.
-use Rattle.std.specs.Prelude.{◌/◌, ◌%◌, ◌≤◌, ◌∷◌, ◌++◌}
+use Rattle.std.specs.Prelude.{◌≤◌, ◌∷◌, ◌++◌}
 use Rattle.cborn_explain.proofs.Common.{ℕ, suc, List, [], length, Bool, true, false, cond, leb, ltb, Option, Some, None, arith, Opening, an_array, a_map, built, Tree, Trees, WireReason, OpenContainer, opened, slot, slot_in, open_depth, Goal, argument_of, content_of, nothing, gathering, State, Live, Failed, is_full, finished, holding, ended, after_head, gather, begin_head, unless, at_slot, number, step, run, place_in}
-use Rattle.cborn_model.specs.declared.heads.Width.TheVariants.{Direct, One}
+use Rattle.cborn_model.specs.declared.heads.Width.TheVariants.{Direct}
 use Rattle.cborn_model.specs.declared.heads.Major.{Major}
-use Rattle.cborn_model.specs.declared.heads.Major.TheVariants.{Unsigned, Negative, ByteString, TextString, Array, Map, Tag, Other}
 use Rattle.cborn_model.specs.Heads.{Argument, Given, EndlessArgument}
 use Rattle.cborn_wire.specs.SlotFaults.{needs_item}
 use Rattle.cborn_wire.specs.HeadReading.{major_at, size_in, count_in}
@@ -16,8 +15,7 @@ Rises p (Live at rd os (gathering q g n got)) = (p ≤ q) × (q ≤ at)
 Rises p (Failed rd q r) = p ≤ q
 
 either : (p : ℕ) (c : Bool) (s u : State) → Rises p s → Rises p u → Rises p (cond c s u)
-either p true s u h k = h
-either p false s u h k = k
+either p c s u h1 h2 = grind (arith, false, true)
 
 module _ (p fed : ℕ) (rd : Trees) (up : p ≤ fed) where
   item_rises : (os : List OpenContainer) (t : Tree) → Rises p (finished fed rd os t)
@@ -29,27 +27,13 @@ module _ (p fed : ℕ) (rd : Trees) (up : p ≤ fed) where
 
   module _ (q : ℕ) (os : List OpenContainer) (from : p ≤ q) (to : q ≤ fed) where
     end_rises : (os : List OpenContainer) → Rises p (ended fed q rd os)
-    end_rises [] = from
-    end_rises (opened o ts ∷ os) = either p (needs_item (slot_in (opened o ts))) _ _ from (item_rises os (built o ts))
+    end_rises os = grind (arith, built, either, item_rises, needs_item, opened, slot_in)
 
     head_rises : (m : Major) (a : Argument) → Rises p (after_head fed q rd os m a)
-    head_rises Unsigned (Given w n) = item_rises os _
-    head_rises Negative (Given w n) = item_rises os _
-    head_rises ByteString (Given w n) = either p (leb n 0) _ _ (item_rises os _) (from, to)
-    head_rises TextString (Given w n) = either p (leb n 0) _ _ (item_rises os _) (from, to)
-    head_rises ByteString EndlessArgument = up
-    head_rises TextString EndlessArgument = up
-    head_rises Array a = opened_rises os (an_array q (size_in a) (count_in a))
-    head_rises Map a = opened_rises os (a_map q (size_in a) (count_in a))
-    head_rises Tag (Given w n) = up
-    head_rises Other (Given Direct n) = item_rises os _
-    head_rises Other (Given One n) = either p (ltb n 32) _ _ from (item_rises os _)
-    head_rises Other EndlessArgument = end_rises os
-    head_rises m a = from
+    head_rises m a = grind (arith, a_map, an_array, count_in, either, end_rises, item_rises, leb, ltb, opened_rises, size_in)
 
     gather_rises : (g : Goal) (n : ℕ) (got : List ℕ) → Rises p (gather fed q rd os g n got)
-    gather_rises (argument_of m w) n got = either p (leb n (length got)) _ _ (head_rises m (Given w (number w got))) (from, to)
-    gather_rises (content_of k w) n got = either p (leb n (length got)) _ _ (item_rises os _) (from, to)
+    gather_rises g n got = grind (arith, argument_of, content_of, either, head_rises, item_rises, leb, length, number)
 
 first_rises : (limit p fed : ℕ) (rd : Trees) (os : List OpenContainer) (m : Major) (i : Info) → p ≤ fed → Rises p (at_slot limit fed rd os m i)
 first_rises limit p fed rd os m i up = go (head_reason (slot os) (leb limit (open_depth os)) m i [])
@@ -65,9 +49,7 @@ first_rises limit p fed rd os m i up = go (head_reason (slot os) (leb limit (ope
     go (Some r) = up
 
 step_rises : (limit p b : ℕ) (s : State) → Rises p s → Rises p (step limit s b)
-step_rises limit p b (Failed rd q r) h = h
-step_rises limit p b (Live fed rd os nothing) h = first_rises limit p fed rd os (major_at (b / 32)) (info_at (b % 32)) h
-step_rises limit p b (Live fed rd os (gathering q g n got)) h = gather_rises p (suc fed) rd (omega (arith, h.0, h.1)) q os h.0 (omega (arith, h.1)) g n (got ++ b ∷ [])
+step_rises limit p b s h1 = grind (arith, first_rises, gather_rises, gathering, info_at, major_at, nothing, suc)
 
 run_rises : (limit p : ℕ) (y : List ℕ) (s : State) → Rises p s → Rises p (run limit s y)
 run_rises limit p [] s h = h

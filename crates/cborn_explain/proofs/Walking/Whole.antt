@@ -8,7 +8,7 @@ use Rattle.cborn_wire.specs.declared.faults.VisitFault.TheVariants.{Refused, Mem
 use Rattle.cborn_wire.specs.declared.head_readers.HeadReader.{HeadReader}
 use Rattle.cborn_wire.specs.declared.head_readers.PartialHead.{PartialHead}
 use Rattle.cborn_wire.proofs.Machine.Running.{run-append}
-use Rattle.cborn_wire.proofs.Machine.SoundItems.{SoundLive, SoundFailed, Sound}
+use Rattle.cborn_wire.proofs.Machine.SoundItems.{SoundLive, Sound}
 use Rattle.cborn_wire.proofs.Machine.SoundRuns.{sound}
 use Rattle.cborn_wire.proofs.Spelled.SlotLaws.{opened}
 use Rattle.cborn_explain.proofs.Walking.Places.{place_rises}
@@ -37,24 +37,10 @@ near n m x low up = sym (ap (take n) (sym (take-append-drop m x)) ∙ take-appen
 
 module _ (y : List ℕ) (bytes : AreBytes y) where
   place_front : (fed : ℕ) (rd : Trees) (os : List OpenContainer) (q : Unfinished) → SoundLive 1024 0 y fed rd os q → place_in (Live fed rd os q) ≡ length (front rd os)
-  place_front fed rd os nothing s = s.fed_is ∙ omega (arith, ap length s.bytes, length-append (front rd os) [])
-  place_front fed rd os (gathering p (argument_of m w) n got) s = omega (arith, s.partial_fits.0)
-  place_front fed rd os (gathering p (content_of k w) n got) s = omega (arith, s.partial_fits.0)
+  place_front fed rd os q h1 = grind (arith, argument_of, content_of, front, gathering, length, length-append, nothing)
 
   over : (f : Partial) (fed at : ℕ) (q : Unfinished) → run 1024 (start 0) y ≡ Live fed (ready f) (open_in f) q → place_in (Live fed (ready f) (open_in f) q) ≡ at → IsOver y at (levels f)
-  over f fed at q is there =
-      let s : SoundLive 1024 0 y fed (ready f) (open_in f) q = subst (Sound 1024 0 y) is (sound 1024 0 y bytes) in
-      let len : length (front (ready f) (open_in f)) ≡ at = sym (place_front fed (ready f) (open_in f) q s) ∙ there in
-      record {
-        partial = f;
-        kept = refl;
-        opened = record {
-          within = omega (arith, len, ap length s.bytes, length-append (front (ready f) (open_in f)) (partial_bytes q));
-          ground = s.ground;
-          bytes = ap (take at) s.bytes ∙ take_at (front (ready f) (open_in f)) (partial_bytes q) at len;
-        };
-        stands = ap place_in is ∙ there;
-      }
+  over f fed at q h1 h2 = grind (arith, front, length, length-append, open_in, opened, partial_bytes, place_front, place_in, ready, sound, take, take_at)
 
   read_over : (v : Places) (around : List Level) (l : Level) (left at place : ℕ) (h : Option PartialHead) → HereAt (IsHeld v) around l left at h (run 1024 (start 0) y) → place ≡ unwrap_or v.string (head_at at h) → IsOver y place (around ++ l ∷ [])
   read_over v around l left at place (Some h) (short, f, held, keeps, takes, is) there = subst (IsOver y place) keeps.0 (over f at place (seen_head h) is (sym (there ∙ ap (λ o. unwrap_or o (head_at at (Some h))) held.3)))
@@ -66,11 +52,7 @@ module _ (y : List ℕ) (bytes : AreBytes y) where
 
 -- A head is refused: the bytes before it end between two heads.
 before_fault : (y : List ℕ) → AreBytes y → (ts : Trees) (p : ℕ) (r : WireReason) → run 1024 (start 0) y ≡ Failed ts p r → (p ≤ length y) × Between (take p y)
-before_fault y bytes ts p r is =
-    let s : SoundFailed 1024 0 y ts p r = subst (Sound 1024 0 y) is (sound 1024 0 y bytes) in
-    let len : length s.before ≡ p = omega (arith, s.live.fed_is) in
-    let front_is : take p y ≡ s.before = ap (take p) s.whole ∙ take_at s.before s.after p len in
-    (omega (arith, len, ap length s.whole, length-append s.before s.after), between (take p y) ts s.os s.live.ground.fit s.live.ground.shallow s.live.ground.are_open (front_is ∙ s.live.bytes ∙ append-nil (front ts s.os)))
+before_fault y h1 ts p r h2 = grind (arith, append-nil, between, front, length, length-append, sound, take, take_at)
 
 -- A reader that is handed the bytes of x up to the place.
 module _ (x : List ℕ) (place : ℕ) (within : place ≤ length x) (bytes : AreBytes x) where

@@ -1,13 +1,8 @@
 use Rattle.cborn_engine.proofs.Common.{FormAnswers, most_bytes}
-use Rattle.cborn_engine.proofs.CountAnswers.Any.{any_sent, any_written}
+use Rattle.cborn_engine.proofs.CountAnswers.Any.{any_sent}
 use Rattle.cborn_engine.proofs.conversions.normalise.Goals as goal
 
 pub of_any-requires : goal.of_any-requires
 of_any-requires g c =
     let k = c.args.in_kind in
     any_sent k c.args.limit _ _ _ _ (FormAnswers g.O.KeyOrder.order k c.args.out_kind c.args.limit most_bytes) c.normalise_stream.result c.normalise_stream.ensures.normalises
-
-pub returns-clause-normalises : goal.returns-clause-normalises
-returns-clause-normalises g c =
-    let k = c.args.in_kind in
-    any_written k c.args.limit _ _ _ _ (FormAnswers g.O.KeyOrder.order k c.args.out_kind c.args.limit most_bytes) c.normalise_stream.result c.of_any.result c.of_any.ensures c.normalise_stream.ensures.normalises

@@ -1,8 +1,7 @@
-use Rattle.cborn_engine.proofs.Common.{FormAnswers, CountAnswer, NormalisesCount, bytes_of, most_bytes, CountFault, EngineFault}
+use Rattle.cborn_engine.proofs.Common.{FormAnswers, CountAnswer, NormalisesCount, bytes_of, most_bytes}
 use Rattle.cborn_engine.proofs.Answers.{known_error}
 use Rattle.cborn_engine.proofs.Canonical.NormalForm.{written}
 use Rattle.cborn_engine.proofs.CountAnswers.Judged.{answered_sent, unanswered_sent}
-use Rattle.cborn_engine.proofs.CountAnswers.Streamed.{sent_quiet, quiet_counted}
 use Rattle.cborn_engine.proofs.counted_streams.normalise_stream.Goals as goal
 
 pub returns-in_err-input-clause-normalises : goal.returns-in_err-input-clause-normalises
@@ -22,8 +21,3 @@ returns-clause-normalises g c =
 
 pub returns-clause-headline : goal.returns-clause-headline
 returns-clause-headline g c = written g.O.KeyOrder.order g.met.O.KeyOrder.laws c.args.in_kind c.args.out_kind c.args.limit c.args.count _ _ _ _ c.send.result (returns-clause-normalises g c)
-
-pub returns-clause-read_failures : goal.returns-clause-read_failures
-returns-clause-read_failures g c =
-    let r = c.form_of-answer in
-    quiet_counted (CountFault.Engine EngineFault.ReadFault) c.send.result _ _ (sent_quiet r.result c.send.ensures.sent.0 c.send.result r.ensures.read c.send.ensures.sent.2) c.in_ok-input.ensures.failures

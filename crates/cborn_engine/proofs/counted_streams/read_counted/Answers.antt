@@ -1,6 +1,5 @@
-use Rattle.cborn_engine.proofs.Common.{CountAnswer, EncodeAnswers, most_bytes, CountFault, EngineFault}
+use Rattle.cborn_engine.proofs.Common.{CountAnswer, EncodeAnswers, most_bytes}
 use Rattle.cborn_engine.proofs.CountAnswers.Judged.{answered}
-use Rattle.cborn_engine.proofs.CountAnswers.Streamed.{quiet_counted}
 use Rattle.cborn_engine.proofs.counted_streams.read_counted.Goals as goal
 
 pub returns-clause-reads : goal.returns-clause-reads
@@ -8,6 +7,3 @@ returns-clause-reads g c =
     let order = g.O.KeyOrder.order in
     let k = c.args.kind in
     answered order c.args.count k c.args.limit _ (g.R.Source.remaining c.read_input.new.reader) (λ x. CountAnswer c.args.count k c.args.limit x (EncodeAnswers order k c.args.limit most_bytes x)) c.in_ok-input.input c.encodings_of.result c.in_ok-input.ensures.input c.encodings_of.ensures.encodings
-
-pub returns-clause-failures : goal.returns-clause-failures
-returns-clause-failures g c = quiet_counted (CountFault.Engine EngineFault.ReadFault) c.encodings_of.result _ _ c.encodings_of.ensures.read c.in_ok-input.ensures.failures

@@ -1,8 +1,8 @@
 use Rattle.std.specs.Prelude.{◌≡◌, ◌+◌, ◌-◌}
-use Rattle.cborn_engine.proofs.Common.{refl, arith, take, true, is_err, LoadAnswers, Loads, Kind}
+use Rattle.cborn_engine.proofs.Common.{arith, take, true, is_err, LoadAnswers, Loads, Kind}
 use Rattle.cborn_wire.proofs.Feeding.Outcomes.{err_is}
-use Rattle.cborn_engine.proofs.Streams.Coming.{at_first, halted, goes_on}
-use Rattle.cborn_engine.proofs.Streams.Feeding.{IsFedSoFar, none_fed, read_on, fed_now, ended_badly}
+use Rattle.cborn_engine.proofs.Streams.Coming.{halted, goes_on}
+use Rattle.cborn_engine.proofs.Streams.Feeding.{IsFedSoFar, read_on, fed_now, ended_badly}
 use Rattle.cborn_engine.proofs.Answers.{known_error, unread}
 use Rattle.cborn_engine.proofs.inputs.load_bytes.Goals as goal
 
@@ -23,9 +23,6 @@ pieces-preserved g c =
       failures = cc (c.in_ok-count.ensures.failures);
       calls = omega (arith, c.pieces.invariant.calls, c.in_ok-count.ensures.calls, c.in_ok-count.ensures.piece.0, c.if-count-eq0.false);
     }
-
-pub pieces-init : goal.pieces-init
-pieces-init g c = record { so_far = rw c.new-feeder.ensures (at_first c.args.most (g.R.Source.remaining c.args.reader.now) _ (none_fed c.args.limit)); failures = refl; calls = omega arith }
 
 pub pieces-preserved-then-not-is_refused : goal.pieces-preserved-then-not-is_refused
 pieces-preserved-then-not-is_refused g c =

@@ -1,8 +1,5 @@
-use Rattle.cborn_engine.proofs.Held.Known.{input_read, nodes_loaded}
+use Rattle.cborn_engine.proofs.Held.Known.{input_read}
 use Rattle.cborn_engine.proofs.laws.held_input.Goals as goal
 
 pub returns-clause-items : goal.returns-clause-items
 returns-clause-items c = input_read
-
-pub returns-clause-nodes : goal.returns-clause-nodes
-returns-clause-nodes c = nodes_loaded

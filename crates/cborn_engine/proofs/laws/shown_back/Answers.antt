@@ -1,8 +1,5 @@
-use Rattle.cborn_engine.proofs.Held.ShownBack.{shown_as_bytes, shown_once}
+use Rattle.cborn_engine.proofs.Held.ShownBack.{shown_once}
 use Rattle.cborn_engine.proofs.laws.shown_back.Goals as goal
-
-pub returns-clause-back : goal.returns-clause-back
-returns-clause-back c = shown_as_bytes
 
 pub returns-clause-one : goal.returns-clause-one
 returns-clause-one c = shown_once

@@ -1,6 +1,5 @@
-use Rattle.cborn_engine.proofs.Common.{cow_slice_items, NormalisedWhole}
-use Rattle.cborn_engine.proofs.Canonical.Headline.{alike, same_held}
-use Rattle.cborn_engine.proofs.CountAnswers.Answered.{engine_of}
+use Rattle.cborn_engine.proofs.Common.{cow_slice_items}
+use Rattle.cborn_engine.proofs.Canonical.Headline.{alike}
 use Rattle.cborn_engine.proofs.laws.two_calls.Goals as goal
 
 pub returns-clause-alike : goal.returns-clause-alike
@@ -8,20 +7,3 @@ returns-clause-alike g c =
     let m = c.in-Ok in
     let n = c.in-Ok-normalise_slice in
     alike g.O.KeyOrder.order g.met.O.KeyOrder.laws c.args.kind_a c.args.kind_b c.args.out_kind c.args.limit c.args.first.now c.args.second.now (cow_slice_items m.bytes) (cow_slice_items n.bytes) m.ensures.normalised.0.0 n.ensures.normalised.0.0 m.ensures.normalised.0.1 n.ensures.normalised.0.1
-
-pub returns-clause-held : goal.returns-clause-held
-returns-clause-held g c =
-    let m = c.in-Ok in
-    let n = c.in-Ok-normalise_slice in (
-      same_held g.O.KeyOrder.order g.met.O.KeyOrder.laws c.args.kind_a c.args.out_kind c.args.limit c.args.first.now (cow_slice_items m.bytes) m.ensures.normalised.0.0 m.ensures.normalised.0.1,
-      same_held g.O.KeyOrder.order g.met.O.KeyOrder.laws c.args.kind_b c.args.out_kind c.args.limit c.args.second.now (cow_slice_items n.bytes) n.ensures.normalised.0.0 n.ensures.normalised.0.1,
-    )
-
-pub of_any-requires : goal.of_any-requires
-of_any-requires g c =
-    let e = engine_of c.args.kind_a c.args.limit c.args.first.now (NormalisedWhole g.O.KeyOrder.order c.args.kind_a c.args.out_kind c.args.limit c.args.first.now) c.in-Err.why c.in-Err.ensures.normalised in (e.0, e.1)
-
-pub of_any-requires-in-Err-normalise_slice : goal.of_any-requires-in-Err-normalise_slice
-of_any-requires-in-Err-normalise_slice g c =
-    let n = c.in-Err-normalise_slice in
-    let e = engine_of c.args.kind_b c.args.limit c.args.second.now (NormalisedWhole g.O.KeyOrder.order c.args.kind_b c.args.out_kind c.args.limit c.args.second.now) n.why n.ensures.normalised in (e.0, e.1)

@@ -1,7 +1,7 @@
-use Rattle.cborn_engine.proofs.Common.{IfErr, List, ℕ, subst, IsShownText, IsUnshown, Fault, kind_of, IsUnshownHeld}
+use Rattle.cborn_engine.proofs.Common.{IfErr, List, ℕ, subst, Fault, kind_of, IsUnshownHeld}
 use Rattle.cborn_edn.specs.ShownBytes.{Notates}
-use Rattle.cborn_engine.proofs.Answers.{known_error, no_reading, as_bytes, as_text, never_wire, refused}
-use Rattle.cborn_engine.proofs.Held.NotatedTexts.{spelled_shows, spelled_read}
+use Rattle.cborn_engine.proofs.Answers.{known_error, no_reading, refused}
+use Rattle.cborn_engine.proofs.Held.NotatedTexts.{spelled_read}
 use Rattle.cborn_engine.proofs.showings.tell_text.Goals as goal
 
 pub returns-in_err-bytes-clause-unshown : goal.returns-in_err-bytes-clause-unshown
@@ -10,26 +10,9 @@ returns-in_err-bytes-clause-unshown c =
     known_error (λ r. IfErr r (IsUnshownHeld k c.args.out_kind c.args.limit c.args.input.now)) _ _ c.from_residual.ensures.1
     (refused k c.args.out_kind c.args.limit c.args.input.now c.in_err-bytes.field-0.0 c.in_err-bytes.ensures.refused)
 
-pub returns-in-Wire-clause-shown : goal.returns-in-Wire-clause-shown
-returns-in-Wire-clause-shown c = let b = c.in_ok-bytes in as_bytes c.args.profile c.args.limit c.args.input.now b.bytes.items b.ensures.spelled.0 b.ensures.spelled.1 c.args.out_kind c.in-Wire.is
-
-pub returns-in-Text-clause-shown : goal.returns-in-Text-clause-shown
-returns-in-Text-clause-shown c =
-    let b = c.in_ok-bytes in
-    let answer = c.in-Text.answer.items in
-    let shown : IsShownText c.args.limit c.deref.result.now answer = subst (Notates c.args.limit c.deref.result.now) c.in-Text.is c.in_ok-answer-in-Notation.ensures in
-    as_text c.args.profile c.args.limit c.args.input.now b.bytes.items b.ensures.spelled.0 b.ensures.spelled.1 c.args.out_kind (never_wire c.args.out_kind c.in-Notation.is) answer
-    (subst (λ (x : List ℕ). IsShownText c.args.limit x answer) c.deref.ensures.value shown) c.requires
-
 pub unreachable-requires : goal.unreachable-requires
 unreachable-requires c =
     let b = c.in_ok-bytes in
     let fault = subst (Notates c.args.limit c.deref.result.now) c.in-Malformed.is c.in_ok-answer-in-Notation.ensures in
     no_reading c.args.limit b.bytes.items (c.in-Malformed.place, c.in-Malformed.reason, subst (λ (x : List ℕ). Fault c.args.limit x c.in-Malformed.place c.in-Malformed.reason) c.deref.ensures.value fault)
     (spelled_read c.args.profile c.args.limit c.args.input.now b.bytes.items c.requires b.ensures.spelled.0 b.ensures.spelled.1)
-
-pub unreachable-requires-in-NotUtf8 : goal.unreachable-requires-in-NotUtf8
-unreachable-requires-in-NotUtf8 c =
-    let b = c.in_ok-bytes in
-    let unshown = subst (Notates c.args.limit c.deref.result.now) c.in-NotUtf8.is c.in_ok-answer-in-Notation.ensures in
-    spelled_shows c.args.profile c.args.limit c.args.input.now b.bytes.items c.requires b.ensures.spelled.0 b.ensures.spelled.1 c.in-NotUtf8.place (subst (λ (x : List ℕ). IsUnshown c.args.limit x c.in-NotUtf8.place) c.deref.ensures.value unshown)

@@ -1,6 +1,6 @@
-use Rattle.cborn_engine.proofs.Common.{inr, IfErr, cow_slice_items, AreRefusedWhole, of_the_first, TellsFaultAs}
-use Rattle.cborn_engine.proofs.Answers.{known_error, unfaulted}
-use Rattle.cborn_engine.proofs.Comparison.Compared.{its_own, bytes_compared}
+use Rattle.cborn_engine.proofs.Common.{cow_slice_items, of_the_first, TellsFaultAs}
+use Rattle.cborn_engine.proofs.Answers.{known_error}
+use Rattle.cborn_engine.proofs.Comparison.Compared.{its_own}
 use Rattle.cborn_engine.proofs.CountAnswers.Answered.{compared_reported, taken_reported}
 use Rattle.cborn_engine.proofs.slices.compare_slices.Goals as goal
 
@@ -12,21 +12,6 @@ difference-requires g c =
       ours = own c.args.kind_a c.args.limit c.args.first.now (cow_slice_items m.ours) c.deref.result.now m.ensures.taken.0.short m.ensures.encoded.0 c.deref.ensures.value;
       theirs = own c.args.kind_b c.args.limit c.args.second.now (cow_slice_items m.theirs) c.deref-2.result.now m.ensures.taken.1.short m.ensures.encoded.1 c.deref-2.ensures.value;
     }
-
-pub returns-clause-compared : goal.returns-clause-compared
-returns-clause-compared g c =
-    let m = c.in_ok-ours in (
-      m.ensures.taken.0,
-      m.ensures.taken.1,
-      bytes_compared g.O.KeyOrder.order g.met.O.KeyOrder.laws c.args.kind_a c.args.kind_b c.args.limit c.args.first.now c.args.second.now (cow_slice_items m.ours) (cow_slice_items m.theirs) c.deref.result.now c.deref-2.result.now c.in_ok-difference.field-0
-          m.ensures.taken.0.short m.ensures.taken.1.short m.ensures.encoded.0 m.ensures.encoded.1 c.deref.ensures.value c.deref-2.ensures.value c.in_ok-difference.ensures,
-    )
-
-pub returns-in_err-difference-clause-refused : goal.returns-in_err-difference-clause-refused
-returns-in_err-difference-clause-refused g c =
-    let (first, second) = c.in_ok-ours.ensures.taken in
-    known_error (λ r. IfErr r (AreRefusedWhole c.args.count c.args.kind_a c.args.kind_b c.args.limit c.args.first.now c.args.second.now)) _ _ c.from_residual-in_err-difference.ensures.1
-    (inr (first, (second.short, unfaulted c.args.kind_b c.args.limit c.args.second.now second.held.nodes second.held.spelled)))
 
 pub returns-in_err-difference-clause-malformed : goal.returns-in_err-difference-clause-malformed
 returns-in_err-difference-clause-malformed g c l = taken_reported c.args.count c.args.kind_a c.args.limit c.args.first.now _ c.in_ok-ours.ensures.taken.0

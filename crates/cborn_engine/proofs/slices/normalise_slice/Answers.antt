@@ -1,14 +1,9 @@
 use Rattle.cborn_engine.proofs.Common.{cow_slice_items, CountAnswer, NormalisedWhole}
-use Rattle.cborn_engine.proofs.Answers.{lent_encoded, held, room, known_error, unfaulted}
+use Rattle.cborn_engine.proofs.Answers.{lent_encoded, known_error, unfaulted}
 use Rattle.cborn_engine.proofs.Canonical.Canonicity.{canon_of}
 use Rattle.cborn_engine.proofs.Canonical.NormalForm.{normal_form}
-use Rattle.cborn_engine.proofs.Canonical.OfBytes.{encoded_bytes}
 use Rattle.cborn_engine.proofs.CountAnswers.Answered.{kept_counted, normalised_reported}
 use Rattle.cborn_engine.proofs.slices.normalise_slice.Goals as goal
-
-pub written_as-requires : goal.written_as-requires
-written_as-requires g c =
-    held g.O.KeyOrder.order g.met.O.KeyOrder.laws c.args.in_kind c.args.limit c.args.input.now (cow_slice_items c.lent.result) c.in_ok-encodings.ensures.0 (lent_encoded g.O.KeyOrder.order c.args.in_kind c.args.limit c.args.input.now c.in_ok-encodings.encodings c.lent.result c.in_ok-encodings.ensures.1 c.lent.ensures)
 
 pub returns-in_err-encodings-clause-normalised : goal.returns-in_err-encodings-clause-normalised
 returns-in_err-encodings-clause-normalised g c =
@@ -54,11 +49,3 @@ pub returns-clause-headline : goal.returns-clause-headline
 returns-clause-headline g c =
     let canonical = (returns-clause-normalised g c).0 in
     normal_form g.O.KeyOrder.order g.met.O.KeyOrder.laws c.args.in_kind c.args.out_kind c.args.limit c.args.input.now _ canonical.0 canonical.1
-
-pub returns-clause-bytes : goal.returns-clause-bytes
-returns-clause-bytes g c =
-    encoded_bytes g.O.KeyOrder.order c.args.in_kind c.args.out_kind c.args.limit c.args.input.now (cow_slice_items c.lent.result) (cow_slice_items c.in_ok-answer.answer) (lent_encoded g.O.KeyOrder.order c.args.in_kind c.args.limit c.args.input.now c.in_ok-encodings.encodings c.lent.result c.in_ok-encodings.ensures.1 c.lent.ensures) c.in_ok-answer.ensures
-
-pub returns-clause-room : goal.returns-clause-room
-returns-clause-room g c =
-    room g.O.KeyOrder.order c.args.in_kind c.args.out_kind c.args.limit c.args.input.now (cow_slice_items c.lent.result) (cow_slice_items c.in_ok-answer.answer) (lent_encoded g.O.KeyOrder.order c.args.in_kind c.args.limit c.args.input.now c.in_ok-encodings.encodings c.lent.result c.in_ok-encodings.ensures.1 c.lent.ensures) c.in_ok-answer.ensures

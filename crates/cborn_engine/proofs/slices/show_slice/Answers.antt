@@ -1,7 +1,6 @@
 use Rattle.cborn_engine.proofs.Common.{CountAnswer, ShownWhole}
 use Rattle.cborn_engine.proofs.Answers.{known_error, unfaulted}
 use Rattle.cborn_engine.proofs.CountAnswers.Answered.{kept_counted, shown_reported}
-use Rattle.cborn_engine.proofs.Held.SameBytes.{same_bytes}
 use Rattle.cborn_engine.proofs.slices.show_slice.Goals as goal
 
 pub returns-in_err-answer-clause-shown : goal.returns-in_err-answer-clause-shown
@@ -25,6 +24,3 @@ returns-clause-shown c = (c.in_ok-answer.ensures.shown, c.in_ok-expect.ensures.c
 
 pub returns-clause-malformed : goal.returns-clause-malformed
 returns-clause-malformed c l = shown_reported c.args.count c.args.in_kind c.args.out_kind c.args.limit c.args.input.now l _ (returns-clause-shown c)
-
-pub returns-clause-same_bytes : goal.returns-clause-same_bytes
-returns-clause-same_bytes c = let h = c.in_ok-answer.ensures.shown in same_bytes c.args.in_kind c.args.out_kind c.args.limit c.args.input.now _ h.0 h.1

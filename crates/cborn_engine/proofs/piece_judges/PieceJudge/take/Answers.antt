@@ -1,11 +1,7 @@
 use Rattle.std.specs.Prelude.{◌≡◌, ◌++◌}
-use Rattle.cborn_engine.proofs.Common.{rules, None, Err, sym, ◌∙◌, subst, arith, Refused, bytes-append, are_bytes, IsHeld, refused, HasJudged}
+use Rattle.cborn_engine.proofs.Common.{rules, None, Err, ◌∙◌, subst, arith, Refused, bytes-append, are_bytes, IsHeld, refused, HasJudged}
 use Rattle.cborn_wire.specs.shared.Visiting.{Reads}
-use Rattle.cborn_engine.proofs.Streams.Judging.{stays}
 use Rattle.cborn_engine.proofs.piece_judges.PieceJudge.take.Goals as goal
-
-pub returns-then-is_some : goal.returns-then-is_some
-returns-then-is_some g c limit x h = (h.0, stays g.O.KeyOrder.order c.args.self.now x c.args.piece.now c.args.self.now.fault (sym c.is_some.ensures ∙ c.if-is_some.true) h.1)
 
 pub returns-in_ok-fault_in-in-Err : goal.returns-in_ok-fault_in-in-Err
 returns-in_ok-fault_in-in-Err g c limit x h =
