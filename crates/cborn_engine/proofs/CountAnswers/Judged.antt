@@ -41,4 +41,3 @@ module _ (order : List ℕ → List ℕ → Ordering) (count : Count) (k : Kind)
       given = s.1;
       read = answered (λ x. IsSent (CountFault.Engine EngineFault.WriteFault) (Answers x) s.0) i r h (λ x g. sent_on (CountFault.Engine EngineFault.WriteFault) (Answers x) answer s.0 r s.2 (f x g));
     }
-
