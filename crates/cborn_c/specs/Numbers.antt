@@ -91,20 +91,13 @@ defect_number defect.KeyOrder = 1540
 -- the number of a fault. 3: memory was refused. An input in memory has no failed read or write, so these have the same number.
 abbrev pub fault_number : EngineFault → ℕ
 fault_number (fault.Wire (wire_fault.Refused p r)) = wire_number r
-fault_number (fault.Wire wire_fault.OutOfMemory) = 3
 fault_number (fault.Edn (edn_fault.Lex (lex_fault.Refused p r))) = lex_number r
-fault_number (fault.Edn (edn_fault.Lex lex_fault.OutOfMemory)) = 3
 fault_number (fault.Edn (edn_fault.Refused p r)) = edn_number r
-fault_number (fault.Edn edn_fault.OutOfMemory) = 3
 fault_number (fault.TextInput p) = 1025
 fault_number (fault.Invalid (invalid_fault.Refused p r)) = invalid_number r
-fault_number (fault.Invalid invalid_fault.OutOfMemory) = 3
 fault_number (fault.Show (unshown.NotUtf8 p)) = 1026
-fault_number (fault.Show unshown.OutOfMemory) = 3
 fault_number fault.TooLong = 4
-fault_number fault.ReadFault = 3
-fault_number fault.WriteFault = 3
-fault_number fault.OutOfMemory = 3
+fault_number _ = 3
 
 -- the number of a fault where the input has to hold a given number of items
 abbrev pub counted_number : CountFault → ℕ

@@ -1,17 +1,22 @@
 //! How answers are reported to C.
-ghost use Rattle.std.specs.Prelude.{◌≡◌, ◌<◌};
+ghost use Rattle.std.specs.Prelude.{◌≡◌, ◌<◌, ◌∷◌, ◌++◌, []};
 ghost use Rattle.cborn_c.specs.Numbers.{counted_number, counted_place};
-ghost use Rattle.cborn_c.specs.Calls.{Told, CheckTold, CompareFaultTold, CompareTold, SameTold, EndTold};
+ghost use Rattle.cborn_c.specs.Calls.{IsPut, WordsPut, TextTold, Told, CheckTold, CompareFaultTold, CompareTold, SameTold, EndTold};
 
 use crate::numbers::{
     DIFFERENT, OF_SECOND, OK, OUT_OF_MEMORY, TOO_SMALL, number_counted, number_defect,
 };
+use arrayvec::ArrayString;
 use cborn_engine::{CompareCountFault, CountFault, EngineFault};
 use cborn_explain::place_of;
 use cborn_judge::Defect;
 use cborn_wire::WireFault;
-use std::alloc::Global;
+use std::alloc::{AllocError, Global};
 use std::borrow::CowSlice;
+use std::fmt::{Display, Write};
+
+/// What the line of a fault at offset 0 has before the words.
+const AT_START: &[u8] = b"offset 0: ";
 
 /// What a call reports besides its number.
 #[repr(C)]
@@ -35,10 +40,8 @@ pub fn put(
     match answer {
         Ok(bytes) => {
             let length = bytes.len();
-            *told = CbornTold {
-                place: 0,
-                length: length as u64,
-            };
+            told.place = 0;
+            told.length = length as u64;
             if length > out.len() {
                 return TOO_SMALL;
             }
@@ -46,10 +49,8 @@ pub fn put(
             OK
         }
         Err(why) => {
-            *told = CbornTold {
-                place: place_of(why).unwrap_or(0),
-                length: 0,
-            };
+            told.place = place_of(why).unwrap_or(0);
+            told.length = 0;
             number_counted(why)
         }
     }
@@ -130,4 +131,45 @@ pub fn end_told(
         Err(why) => CountFault::Engine(EngineFault::Wire(why)),
     };
     fault_told(why, place)
+}
+
+/// Writes an explanation to the start of `out`, and answers the number for C. `told` gets its length in
+/// bytes. Where `out` is too small, or memory was refused, `out` is unchanged.
+pub fn put_text(answer: Result<String, AllocError>, out: &mut [u8], told: &mut CbornTold) -> u32
+    ensures { TextTold answer out.old out.new told.new result }
+{
+    let bytes = match answer {
+        Ok(text) => Ok(CowSlice::Owned(text.into_bytes())),
+        Err(refused) => Err(CountFault::from(refused)),
+    };
+    put(bytes, out, told)
+}
+
+/// Writes the words of a fault or a defect, without an offset, to the start of `out`, and then a zero
+/// byte: at most 64 bytes in all. Answers `OK`, or `TOO_SMALL` where they don't fit; `out` is then
+/// unchanged.
+pub fn put_words<T: Display>(why: &T, out: &mut [u8]) -> u32
+    ensures { WordsPut out.old out.new result }
+{
+    let mut line = ArrayString::<63>::new();
+    // of longer words the pieces that don't fit would be missing
+    let _written = write!(line, "{why}");
+    let bytes = line.as_str().as_bytes();
+    match bytes.strip_prefix(AT_START) {
+        Some(words) => put_line(words, out),
+        None => put_line(bytes, out),
+    }
+}
+
+/// Writes a text and then a zero byte to the start of `out`, or answers `TOO_SMALL` where they don't fit.
+fn put_line(text: &[u8], out: &mut [u8]) -> u32
+    ensures { IsPut (text.now ++ 0 ∷ []) out.old out.new result }
+{
+    let length = text.len();
+    if length >= out.len() {
+        return TOO_SMALL;
+    }
+    out[..length].copy_from_slice(text);
+    out[length] = 0;
+    OK
 }

@@ -1,16 +1,17 @@
-//! The calls of the engine, with an order of keys that C gave a number of.
-ghost use Rattle.std.specs.Prelude.{◌≡◌, ◌≤◌, ◌*◌, length, IfOk};
+//! The calls of the engine, with an order of keys that C gave a number of, and of explanations.
+ghost use Rattle.std.specs.Prelude.{◌≡◌, ◌≤◌, ◌*◌, ◌↔◌, length, IsTrue, IfOk, IfSome, IfNone};
 ghost use Rattle.std.specs.Cow.{cow_slice_items};
 ghost use Rattle.cborn_engine.specs.declared.kinds.Kind.TheVariants as kinds;
 ghost use Rattle.cborn_engine.specs.Counts.{CountAnswer, NormalisedWhole, CheckedWhole};
 ghost use Rattle.cborn_c.specs.Answers.{Matched};
-ghost use Rattle.cborn_c.specs.Numbers.{order_of};
+ghost use Rattle.cborn_c.specs.Calls.{IsExplained, IsFaultOf};
+ghost use Rattle.cborn_c.specs.Numbers.{order_of, IsOfFormat};
 
-use crate::numbers::KeyOrdering;
+use crate::numbers::{KeyOrdering, defect_at, fault_at, of_first};
 use cborn_engine::{
     CompareCountFault, Count, CountFault, Kind, check_slice, normalise_slice, same_items,
 };
-use cborn_explain::explain_comparison;
+use cborn_explain::{explain_comparison, explain_defect, explain_fault};
 use cborn_judge::Defect;
 use cborn_model::{Bytewise, LengthFirst, Limit};
 use std::alloc::{AllocError, Global};
@@ -84,4 +85,49 @@ pub fn compared_lines(
     same: bool,
 ) -> Result<String, AllocError> {
     by_order!(order, explain_comparison(alloc, limit, kinds, inputs, same))
+}
+
+/// Whether the class of a number is one of the faults in the content of an input of this format.
+fn is_of_format(kind: Kind, number: u32) -> bool
+    ensures { IsTrue result ↔ IsOfFormat kind number }
+{
+    let class = number / 256;
+    match kind {
+        Kind::Wire => matches!(class, 1 | 5 | 7) || number == 0x402,
+        Kind::Notation | Kind::Notation2 => matches!(class, 2 | 3 | 5 | 7) || number == 0x401,
+    }
+}
+
+/// A fault in the content of an input of this format that has this number. `None`: there is none.
+fn content_fault_at(kind: Kind, number: u32, place: u64) -> Option<CountFault>
+    ensures some { IfSome result (λ why. IsFaultOf kind number) }
+    ensures none { IfNone result (IsFaultOf kind number → ⊥) }
+{
+    if is_of_format(kind, number) {
+        fault_at(number, place)
+    } else {
+        None
+    }
+}
+
+/// The explanation of a fault or a defect, whose number and offset in bytes another call reported for
+/// this input, or that memory for it is refused. `None`: no input of this format has a defect, or a
+/// fault in its content, with this number.
+pub fn explained(
+    alloc: Global,
+    limit: Limit,
+    kind: Kind,
+    bytes: &[u8],
+    number: u32,
+    place: u64,
+) -> Option<Result<String, AllocError>>
+    ensures some { IfSome result (λ answer. IsExplained kind number) }
+    ensures none { IfNone result (IsExplained kind number → ⊥) }
+{
+    if let (Kind::Wire, Some(reason)) = (kind, defect_at(number)) {
+        let defect = Defect { place, reason };
+        return Some(explain_defect(alloc, limit, bytes, defect));
+    }
+    let fault = content_fault_at(kind, of_first(number), place)?;
+    Some(explain_fault(alloc, limit, kind, bytes, fault))
 }

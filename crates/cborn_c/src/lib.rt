@@ -19,9 +19,7 @@ macro_rules! take {
 
 mod answers;
 mod calls;
-mod explanations;
 mod numbers;
-mod words;
 
 ghost use Rattle.std.specs.Prelude.{◌≡◌, ◌≢◌, ◌≤◌, ◌+◌, ◌/◌, length};
 ghost use Rattle.cborn_engine.specs.declared.counts.Count.TheVariants as counts;
@@ -29,16 +27,15 @@ ghost use Rattle.cborn_c.specs.Numbers.{numbered_kind, numbered_order};
 ghost use Rattle.cborn_c.specs.Calls.{NormaliseCall, ShowCall, CheckCall, CompareCall, SameCall, ItemEndCall, WordsCall, ExplainCall, ComparisonCall};
 
 use answers::{
-    CbornTold, compare_fault_told, defect_told, difference_told, end_told, put, same_told,
+    CbornTold, compare_fault_told, defect_told, difference_told, end_told, put, put_text,
+    put_words, same_told,
 };
-use calls::{checked, compared_lines, matched, normalised};
+use calls::{checked, compared_lines, explained, matched, normalised};
 use cborn_engine::{Count, compare_slices, show_slice};
 use cborn_model::{Bytewise, Limit};
 use cborn_wire::item_end;
-use explanations::{Input, explained, put_text};
-use numbers::{BAD_ARGUMENT, kind_at, order_at};
+use numbers::{BAD_ARGUMENT, defect_at, fault_at, kind_at, of_first, order_at};
 use std::alloc::Global;
-use words::{counted_fault_at, defect_at, of_first, put_words};
 
 /// Writes the canonical form of the items of `input` to the start of `out`: their deterministic
 /// encodings (RFC 8949 section 4.2), or the fixed notation of these. `from` and `to` number a format,
@@ -327,7 +324,7 @@ pub extern "C" fn cborn_words(number: u32, out: &mut [u8]) -> u32
     if let Some(reason) = defect_at(number) {
         return put_words(&reason, out);
     }
-    match counted_fault_at(of_first(number), 0) {
+    match fault_at(of_first(number), 0) {
         Some(why) => put_words(&why, out),
         None => BAD_ARGUMENT,
     }
@@ -360,11 +357,7 @@ pub extern "C" fn cborn_explain(
 {
     take!(from = kind_at(from));
     take!(limit = Limit::new(depth));
-    let input = Input {
-        kind: from,
-        bytes: input,
-    };
-    take!(answer = explained(alloc, limit, input, number, place));
+    take!(answer = explained(alloc, limit, from, input, number, place));
     put_text(answer, out, told)
 }
 

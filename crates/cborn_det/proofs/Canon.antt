@@ -1,6 +1,6 @@
 -- Of valid items, two have one encoding exactly if they are the same, and each has one.
-use Rattle.std.specs.Prelude.{◌↔◌, ◌≡◌, ◌≢◌, ◌+◌, ◌*◌, ◌<◌, ◌≤◌, ◌^◌, ◌⊎◌, ◌∷◌, ◌++◌}
-use Rattle.cborn_det.proofs.Common.{ℕ, suc, inl, inr, List, [], length, refl, sym, ap, ◌∙◌, subst, arith, true, false, Bool, append-nil, length-append, IsPermutation, Ordering, ⊤, AllByRecursion, AllZip, length_permutation, IsPermutation-sym, IsPermutation-trans, cases_lt, Value, Values, Couples, integer, bytes, text, array, dict, tagged, simple, no_values, value, no_pairs, pair, listed, value_count, pair_count, pairs_of, values_of, number, Same, SameValues, SamePairs, big_endian, IsProper, AreProper, HasProperPairs, IsNew, HasNewKeys, Width, information, following, IsHead, least, IsLeastHead, IsString, IsInteger, Det, DetValues, DetPairs, DetSeq, DetMap, Entry, joined, major_of, bignum_tag, HasDistinctKeys, IsKeyOrder, one_head, least_holds, All_moved, carried, carried_left, one_magnitude, one_number, listed-pairs_of}
+use Rattle.std.specs.Prelude.{◌↔◌, ◌≡◌, ◌+◌, ◌*◌, ◌<◌, ◌≤◌, ◌^◌, ◌⊎◌, ◌∷◌, ◌++◌}
+use Rattle.cborn_det.proofs.Common.{ℕ, suc, inl, inr, List, [], length, refl, sym, ap, ◌∙◌, subst, arith, true, false, Bool, append-nil, length-append, IsPermutation, Ordering, AllByRecursion, AllZip, length_permutation, IsPermutation-sym, IsPermutation-trans, cases_lt, Value, Values, Couples, integer, bytes, text, array, dict, tagged, simple, no_values, value, no_pairs, pair, listed, value_count, pair_count, pairs_of, values_of, number, Same, SameValues, SamePairs, big_endian, IsProper, AreProper, HasProperPairs, IsNew, HasNewKeys, information, following, least, IsLeastHead, IsString, IsInteger, Det, DetValues, DetPairs, DetSeq, DetMap, Entry, joined, major_of, bignum_tag, HasDistinctKeys, IsKeyOrder, one_head, least_holds, All_moved, carried, carried_left, one_magnitude, one_number, listed-pairs_of}
 use Rattle.cborn_model.specs.Heads.{major_at}
 use Rattle.cborn_model.proofs.Numbers.Majors.{major_at-code}
 use Rattle.cborn_model.proofs.Numbers.Simples.{simple_below}

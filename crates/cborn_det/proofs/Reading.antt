@@ -1,5 +1,5 @@
 -- What begins an encoding and what follows that; and no encoding begins another: what is at the front of a list is one encoding at most.
-use Rattle.std.specs.Prelude.{◌≡◌, ◌≢◌, ◌+◌, ◌<◌, ◌≤◌, ◌^◌, ◌⊎◌, ◌∷◌, ◌++◌}
+use Rattle.std.specs.Prelude.{◌≡◌, ◌≢◌, ◌<◌, ◌≤◌, ◌^◌, ◌⊎◌, ◌∷◌, ◌++◌}
 use Rattle.cborn_det.proofs.Common.{ℕ, zero, suc, inl, inr, List, [], length, refl, sym, ap, ◌∙◌, subst, arith, true, false, Bool, length-append, append_assoc, append-nil, Ordering, AllByRecursion, length_permutation, Value, Values, Couples, integer, bytes, text, array, dict, tagged, simple, no_values, value, no_pairs, pair, value_count, pair_count, big_endian, IsShortest, IsProper, AreProper, HasProperPairs, Width, IsHead, IsLeastHead, least, Rising, Det, DetValues, DetPairs, Entry, keys, joined, bignum_tag, one_head, append_same, All_moved}
 use Rattle.cborn_model.specs.Heads.{code, major_at}
 use Rattle.cborn_model.specs.declared.heads.Major.{Major}

@@ -1,6 +1,6 @@
 -- How much room encodings take: of each item less than four thirds of the bytes that spelled it.
 use Rattle.std.specs.Prelude.{◌≡◌, ◌+◌, ◌*◌, ◌<◌, ◌≤◌, ◌^◌, ◌∷◌, ◌++◌}
-use Rattle.cborn_det.proofs.Common.{ℕ, suc, inl, inr, List, [], length, refl, sym, ap, ◌∙◌, subst, arith, true, false, Bool, ltb, ltb-true, ltb-false, length-append, lit<, IsPermutation, Ordering, AllZip, flat_map, cases_lt, cond_both, sum_by-IsPermutation, Width, AreBytes, big_endian, IsShortest, WidthFits, following, least, IsLeastHead, Given, EndlessArgument, head, argument, Value, Values, Couples, array, dict, tagged, simple, no_values, value, no_pairs, pair, value_count, pair_count, IsString, IsInteger, Det, DetValues, DetPairs, DetSeq, Entry, joined, major_of, bignum_tag, below_power, fewer}
+use Rattle.cborn_det.proofs.Common.{ℕ, suc, inl, inr, List, [], length, refl, sym, ap, ◌∙◌, subst, arith, true, false, Bool, ltb-true, ltb-false, length-append, IsPermutation, Ordering, AllZip, flat_map, cases_lt, cond_both, sum_by-IsPermutation, Width, AreBytes, big_endian, IsShortest, WidthFits, following, least, IsLeastHead, Given, head, argument, Value, Values, Couples, array, dict, tagged, simple, no_values, value, no_pairs, pair, value_count, pair_count, IsString, IsInteger, Det, DetValues, DetPairs, DetSeq, Entry, joined, major_of, bignum_tag, below_power, fewer}
 use Rattle.std.proofs.lemmas.List.Concat.{length-flat_map}
 use Rattle.std.proofs.Math.Nat.{pow-le-pow_right}
 use Rattle.cborn_model.specs.declared.heads.Width.TheVariants.{Direct, One, Two, Four, Eight}
@@ -18,10 +18,7 @@ use Rattle.cborn_model.proofs.Bytes.{bytes-append}
 
 -- what holds of each width for the numbers of which it is the least
 by_least : (P : Width → Type 0) (n : ℕ) → (n < 24 → P Direct) → (24 ≤ n → n < 256 → P One) → (256 ≤ n → n < 2 ^ 16 → P Two) → (2 ^ 16 ≤ n → n < 2 ^ 32 → P Four) → (2 ^ 32 ≤ n → P Eight) → P (least n)
-by_least P n direct one two four eight =
-    cond_both (ltb n 24) _ _ P (λ e. direct (ltb-true n 24 e)) (λ a. cond_both (ltb n 256) _ _ P (λ e. one (ltb-false n 24 a) (ltb-true n 256 e))
-    (λ b. cond_both (ltb n (2 ^ 16)) _ _ P (λ e. two (ltb-false n 256 b) (ltb-true n (2 ^ 16) e))
-    (λ c. cond_both (ltb n (2 ^ 32)) Four Eight P (λ e. four (ltb-false n (2 ^ 16) c) (ltb-true n (2 ^ 32) e)) (λ d. eight (ltb-false n (2 ^ 32) d)))))
+by_least P n direct one two four eight = grind (arith, cond_both, ltb-false, ltb-true)
 
 -- how many bytes of an argument a width has
 bytes_in : Width → ℕ
@@ -51,11 +48,7 @@ least_is_short n = by_least (λ v. 3 * bytes_in v ≤ n) n (λ _. omega arith) (
 
 -- a number of so many bytes has no fewer
 power_above : (k l n : ℕ) → 256 ^ k ≤ n → n < 256 ^ l → k < l
-power_above k l n a b =
-    elim (cases_lt k l) [
-      | inl h ↦ h
-      | inr h ↦ absurd (let m : 256 ^ l ≤ 256 ^ k = pow-le-pow_right (lit< tt) h in omega (arith, m, a, b))
-    ]
+power_above k l n a b = grind (arith, cases_lt, pow-le-pow_right)
 
 -- the least head of a number is hardly longer than a bignum of it
 least_of_bytes : (l n : ℕ) → n < 256 ^ l → 3 * bytes_in (least n) ≤ 4 + 4 * l
@@ -76,14 +69,10 @@ length_of_head m w n = ap suc (length-following w n)
 
 -- the encoding of a string, besides its length
 string_room : (j : ℕ) (b x : List ℕ) → IsString j b x → 3 * length x ≤ 3 + 4 * length b
-string_room j b x d =
-    let e : length x ≡ length d.0 + length b = ap length d.2 ∙ length-append d.0 b in
-    omega (arith, e, length_of_least j (length b) d.0 d.1, least_is_short (length b))
+string_room j b x d = grind (arith, least_is_short, length-append, length_of_least)
 
 length_of_string : (m : Major) (w : Width) (b : List ℕ) → suc (length b) ≤ length (string m w b)
-length_of_string m w b =
-    let e : length (string m w b) ≡ length (head m (Given w (length b))) + length b = length-append (head m (Given w (length b))) b in
-    omega (arith, e, length_of_head m w (length b))
+length_of_string m w b = grind (arith, length-append, length_of_head)
 
 pub length_of_chunks : (m : Major) (cs : List Chunk) → length (joined_chunks cs) ≤ length (flat_map (chunk_bytes m) cs)
 length_of_chunks m [] = omega arith
@@ -95,10 +84,7 @@ length_of_chunks m (c ∷ cs) =
     omega (arith, rest, first, e, f)
 
 length_of_chunked : (m : Major) (cs : List Chunk) → 2 + length (joined_chunks cs) ≤ length (chunks m cs ++ ending Endless)
-length_of_chunked m cs =
-    let e : length (chunks m cs ++ ending Endless) ≡ length (chunks m cs) + length (ending Endless) = length-append (chunks m cs) (ending Endless) in
-    let f : length (chunks m cs) ≡ length (head m EndlessArgument) + length (flat_map (chunk_bytes m) cs) = length-append (head m EndlessArgument) (flat_map (chunk_bytes m) cs) in
-    omega (arith, e, f, length_of_chunks m cs)
+length_of_chunked m cs = grind (arith, length-append, length_of_chunks)
 
 pub joined_bytes : (cs : List Chunk) → ChunksFit cs → AreBytes (joined_chunks cs)
 joined_bytes [] h = tt
@@ -115,14 +101,7 @@ holds_below Eight n h = h
 holds_below _ n h = omega (arith, h)
 
 integer_room : (order : List ℕ → List ℕ → Ordering) (s : Bool) (j : Major) (w : Width) (n : ℕ) (v : Value) (x : List ℕ) → WidthFits w n → IsNumber s n v → Det order v x → IsRoomFor (head j (Given w n)) x
-integer_room order s j w n v x h m d =
-    let e : IsInteger s m.0 x = subst (λ (u : Value). Det order u x) m.4 d in
-    elim e [
-      | inl p ↦
-          let q : IsLeastHead (major_of s) n x = subst (λ k. IsLeastHead (major_of s) k x) m.3 p.1 in
-          omega (arith, length_of_least (major_of s) n x q, length_of_head j w n, least_is_least w n h)
-      | inr p ↦ absurd (let l = holds_below w n h in omega (arith, p.0, m.3, l))
-    ]
+integer_room order s j w n v x h m d = grind (arith, holds_below, least_is_least, length_of_head, length_of_least)
 
 tag_is_short : (s : Bool) → bytes_in (least (bignum_tag s)) ≡ 0
 unfolding bytes_in
@@ -168,15 +147,8 @@ length_moved written arranged p =
 
 -- an array or a map of n entries, whose contents have the room that they take
 listed_room : (m : Major) (j : ℕ) (s : Size) (n : ℕ) (inner h c x : List ℕ) → 3 * length c + n ≤ 4 * length inner → IsLeastHead j n h → x ≡ h ++ c → IsRoomFor (head m (argument s n) ++ inner ++ ending s) x
-listed_room m j (Fixed w) n inner h c x room p e =
-    let whole : length x ≡ length h + length c = ap length e ∙ length-append h c in
-    let l : length (head m (Given w n) ++ inner ++ []) ≡ length (head m (Given w n) ++ inner) + 0 = length-append (head m (Given w n) ++ inner) [] in
-    omega (arith, room, whole, l, length-append (head m (Given w n)) inner, length_of_head m w n, length_of_least j n h p, least_is_short n)
-listed_room m j Endless n inner h c x room p e =
-    let whole : length x ≡ length h + length c = ap length e ∙ length-append h c in
-    let l : length (head m EndlessArgument ++ inner ++ ending Endless) ≡ length (head m EndlessArgument ++ inner) + 1 = length-append (head m EndlessArgument ++ inner) (ending Endless) in
-    let k : length (head m EndlessArgument ++ inner) ≡ 1 + length inner = length-append (head m EndlessArgument) inner in
-    omega (arith, room, whole, l, k, length_of_least j n h p, least_is_short n)
+listed_room m j (Fixed w) n inner h c x room p e = grind (arith, least_is_short, length-append, length_of_head, length_of_least)
+listed_room m j Endless n inner h c x room p e = grind (arith, least_is_short, length-append, length_of_least)
 
 -- the bytes of a bignum, of which the string that spells them has at least so many more
 number_room : (order : List ℕ → List ℕ → Ordering) (s : Bool) (t : Tree) (v : Value) (x : List ℕ) → Fits t → IsBignum s t v → Det order v x → 3 * length x + 1 ≤ 4 * (1 + length (spelled t))

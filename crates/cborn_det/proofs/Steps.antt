@@ -25,10 +25,7 @@ proper_pair ps i p l e h = subst ProperPair (sym e) (All-from_recursion ProperPa
     along (q ∷ qs) h = ((h.0, h.1), along qs h.2)
 
 written_push : (es : List Entry) (e : Entry) (cs : List (ℕ × ℕ)) (c : ℕ × ℕ) (b : List ℕ) → IsWritten es cs b → c.0 ≡ length e.0 → c.1 ≡ length e.1 → IsWritten (es ++ e ∷ []) (cs ++ c ∷ []) (b ++ (e.0 ++ e.1))
-written_push es e cs c b w p q = (
-  (λ i. w.0 i ++ (p i, q i) ∷ []) ∙ lengths_push es,
-  ap (λ z. z ++ (e.0 ++ e.1)) w.1 ∙ joined_push es,
-)
+written_push es e cs c b w p q = grind (arith, joined_push, lengths_push)
   where
     lengths_push : (fs : List Entry) → map lengths_of fs ++ lengths_of e ∷ [] ≡ map lengths_of (fs ++ e ∷ [])
     lengths_push [] = refl
@@ -79,11 +76,7 @@ module _ (order : List ℕ → List ℕ → Ordering) where
   seq_of_values (v ∷ vs) x d = (d.0, d.1, d.2, seq_of_values vs d.1 d.3, d.4)
 
   pub items_done : (vs : List Value) (n : ℕ) (old mid new : List ℕ) → n ≡ length vs → Appends (IsLeastHead 4 n) old mid → Appends (DetSeq order vs) mid new → Appends (Det order (array (values_of vs))) old new
-  items_done vs n old mid new l h d = (
-    h.0 ++ d.0,
-    (h.0, d.0, subst (λ k. IsLeastHead 4 k h.0) (l ∙ sym (value_count-values_of vs)) h.1, values_of_seq vs d.0 d.1, refl),
-    d.2 ∙ ap (λ z. z ++ d.0) h.2 ∙ append_assoc old h.0 d.0,
-  )
+  items_done vs n old mid new l h d = grind (arith, append_assoc, value_count-values_of, values_of_seq)
 
   pub map_done : (ps : List (Value × Value)) (es fs : List Entry) (n : ℕ) (old mid new : List ℕ) → n ≡ length ps → DetPairs order (pairs_of ps) es → IsPermutation es fs → Rising order (keys fs) → Appends (IsLeastHead 5 n) old mid → new ≡ mid ++ joined fs → Appends (Det order (dict (pairs_of ps))) old new
   map_done ps es fs n old mid new l z p r h e =

@@ -10,7 +10,7 @@ ghost use Rattle.cborn_det.specs.Det.{Det, DetSeq, DetPairs, Entry};
 use crate::entries::arrange;
 use crate::heads::put_head;
 use crate::parts::{push_integer, push_simple, push_string};
-use cborn_model::{Item, KeyOrder, Major, Valid};
+use cborn_model::{Item, KeyOrder, Major, Result, Valid};
 use std::alloc::{AllocError, Global};
 
 /// The deterministic encoding of `valid` (RFC 8949 section 4.2), with the keys of its maps in the
@@ -21,7 +21,9 @@ use std::alloc::{AllocError, Global};
 pub fn encode<O: KeyOrder>(alloc: Global, valid: &Valid) -> Result<Vec<u8>, AllocError>
     ensures { IfOk result (λ bytes. Det O.order valid.now bytes.items) }
 {
-    encode_item::<O>(alloc, valid.item())
+    let mut out = Vec::new(alloc);
+    push_encoding::<O>(alloc, valid.item(), &mut out)?;
+    Ok(out)
 }
 
 /// The deterministic encodings of `items` (RFC 8949 section 4.2), one after another.
@@ -47,18 +49,11 @@ pub fn equal_bytes<O: KeyOrder>(alloc: Global, a: &Valid, b: &Valid) -> Result<b
     ensures same { IfOk result (λ equal. IsTrue equal ↔ Same a.now b.now) }
     ensures bytes { IfOk result (λ equal. (x y : List ℕ) → Det O.order a.now x → Det O.order b.now y → IsTrue equal ↔ x ≡ y) }
 {
-    let first = encode_item::<O>(alloc, a.item())?;
-    let second = encode_item::<O>(alloc, b.item())?;
+    let mut first = Vec::new(alloc);
+    push_encoding::<O>(alloc, a.item(), &mut first)?;
+    let mut second = Vec::new(alloc);
+    push_encoding::<O>(alloc, b.item(), &mut second)?;
     Ok(first == second)
-}
-
-fn encode_item<O: KeyOrder>(alloc: Global, item: &Item) -> Result<Vec<u8>, AllocError>
-    requires { IsProper (item_value item.now) }
-    ensures { IfOk result (λ bytes. Det O.order (item_value item.now) bytes.items) }
-{
-    let mut out = Vec::new(alloc);
-    push_encoding::<O>(alloc, item, &mut out)?;
-    Ok(out)
 }
 
 /// Appends the deterministic encoding of `item` to `out`, with the keys of its maps in the order
@@ -102,25 +97,17 @@ fn push_item<O: KeyOrder>(alloc: Global, item: &Item, out: &mut Vec<u8>) -> Resu
             push_items::<O>(alloc, items, out)?;
             Ok(())
         }
-        Item::Pairs(pairs) => {
-            push_map::<O>(alloc, pairs.as_slice(), out)?;
-            Ok(())
-        }
+        Item::Pairs(pairs) => push_map::<O>(alloc, pairs.as_slice(), out),
         Item::Tagged(tag, content) => {
             put_head(Major::Tag, *tag, out)?;
-            push_item::<O>(alloc, content.get(), out)?;
-            Ok(())
+            push_item::<O>(alloc, content.get(), out)
         }
         Item::Simple(n) => push_simple(*n, out),
     }
 }
 
 #[cycle(encoder)]
-fn push_items<O: KeyOrder>(
-    alloc: Global,
-    items: &[Item],
-    out: &mut Vec<u8>,
-) -> Result<(), AllocError>
+fn push_items<O: KeyOrder>(alloc: Global, items: &[Item], out: &mut Vec<u8>) -> Result<()>
     requires { AreProper (values_of (map item_value items.now)) }
     ensures { Writes result (DetSeq O.order (map item_value items.now)) out.old.items out.new.items }
 {
@@ -130,14 +117,9 @@ fn push_items<O: KeyOrder>(
     Ok(())
 }
 
-/// Appends the encoding of a map: its pairs in the order of the item, which are then arranged in
-/// the buffer.
+/// Appends the encoding of a map: its pairs as they stand, which are then arranged in the buffer.
 #[cycle(encoder)]
-fn push_map<O: KeyOrder>(
-    alloc: Global,
-    pairs: &[(Item, Item)],
-    out: &mut Vec<u8>,
-) -> Result<(), AllocError>
+fn push_map<O: KeyOrder>(alloc: Global, pairs: &[(Item, Item)], out: &mut Vec<u8>) -> Result<()>
     requires proper { HasProperPairs (pairs_of (map pair_value pairs.now)) }
     requires new { HasNewKeys (pairs_of (map pair_value pairs.now)) }
     ensures { Writes result (Det O.order (dict (pairs_of (map pair_value pairs.now)))) out.old.items out.new.items }
@@ -149,8 +131,7 @@ fn push_map<O: KeyOrder>(
     Ok(())
 }
 
-/// Appends the pairs in the order of the item, and gives the lengths in bytes of each key and
-/// value.
+/// Appends the pairs as they stand, and gives the lengths in bytes of each key and value.
 #[cycle(encoder)]
 fn push_pairs<O: KeyOrder>(
     alloc: Global,

@@ -24,25 +24,14 @@ pub(crate) fn arrange<O: KeyOrder>(
     ensures arranged { OnOk result ((es : List Entry) → IsWritten es lengths.now (drop start out.old.items) → (fs : List Entry) × IsPermutation es fs × Rising O.order (keys fs) × (out.new.items ≡ take start out.old.items ++ joined fs)) }
     ensures before { BeginsWith (take start out.old.items) out.new.items }
 {
-    let arranged = arranged::<O>(alloc, lengths, &out[start..])?;
+    let written = &out[start..];
+    let mut entries = entries_in(alloc, lengths, written)?;
+    entries.sort_unstable_by(|a, b| O::compare(a.0, b.0));
+    let mut arranged = Vec::with_capacity(alloc, written.len())?;
+    push_entries(&entries, &mut arranged)?;
+    drop(entries);
     out.truncate(start);
     out.extend_from_slice(&arranged)
-}
-
-/// The bytes of the entries in `written`, arranged so that the keys rise.
-fn arranged<O: KeyOrder>(
-    alloc: Global,
-    lengths: &[(usize, usize)],
-    written: &[u8],
-) -> Result<Vec<u8>, AllocError>
-    requires { (es : List Entry) × IsWritten es lengths.now written.now × HasDistinctKeys es }
-    ensures { IfOk result (λ v. (es : List Entry) → IsWritten es lengths.now written.now → (fs : List Entry) × IsPermutation es fs × Rising O.order (keys fs) × (v.items ≡ joined fs)) }
-{
-    let mut entries = entries_in(alloc, lengths, written)?;
-    sort::<O>(&mut entries);
-    let mut out = Vec::with_capacity(alloc, written.len())?;
-    push_entries(&entries, &mut out)?;
-    Ok(out)
 }
 
 /// The entries in `written`, in their order, as slices of it.
@@ -64,15 +53,6 @@ fn entries_in<'a>(
         rest = after;
     }
     Ok(entries)
-}
-
-/// Arranges entries so that their keys rise.
-fn sort<O: KeyOrder>(entries: &mut Vec<(&[u8], &[u8])>)
-    requires { HasDistinctKeys (entries_of entries.old.items) }
-    ensures same { IsPermutation (entries_of entries.old.items) (entries_of entries.new.items) }
-    ensures rising { Rising O.order (keys (entries_of entries.new.items)) }
-{
-    entries.sort_unstable_by(|a, b| O::compare(a.0, b.0));
 }
 
 fn push_entries(entries: &[(&[u8], &[u8])], out: &mut Vec<u8>) -> Result<(), AllocError>

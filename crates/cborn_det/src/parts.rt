@@ -14,8 +14,7 @@ pub(crate) fn push_string(major: Major, bytes: &[u8], out: &mut Vec<u8>) -> Resu
     ensures { Writes result (IsString (code major) bytes.now) out.old.items out.new.items }
 {
     put_head(major, bytes.len() as u64, out)?;
-    out.extend_from_slice(bytes)?;
-    Ok(())
+    out.extend_from_slice(bytes)
 }
 
 /// The major type of an integer within 64 bits (RFC 8949 section 3.1).
@@ -40,10 +39,7 @@ pub fn push_integer(negative: bool, magnitude: &[u8], out: &mut Vec<u8>) -> Resu
     ensures front { OnErr result ((front : List ℕ) × (out.new.items ≡ out.old.items ++ front)) }
 {
     match word_of(magnitude) {
-        Some(n) => {
-            put_head(integer_major(negative), n, out)?;
-            Ok(())
-        }
+        Some(n) => put_head(integer_major(negative), n, out),
         None => {
             let tag = if negative { 3 } else { 2 };
             put_head(Major::Tag, tag, out)?;
@@ -57,6 +53,5 @@ pub(crate) fn push_simple(n: u8, out: &mut Vec<u8>) -> Result<(), AllocError>
     requires { IsTrue (is_simple_value n) }
     ensures { (order : List ℕ → List ℕ → Ordering) → Writes result (Det order (simple n)) out.old.items out.new.items }
 {
-    put_head(Major::Other, u64::from(n), out)?;
-    Ok(())
+    put_head(Major::Other, u64::from(n), out)
 }

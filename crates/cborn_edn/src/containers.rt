@@ -6,17 +6,15 @@ ghost use Rattle.cborn_edn.specs.devices.Common.{Span as Place, Item, Content, P
 ghost use Rattle.cborn_edn.specs.Cited.{Str, joined, piece_errors, size_errors};
 ghost use Rattle.cborn_edn.specs.devices.Handed as pure;
 
-use crate::MeaningError;
-use crate::events::Event;
-use crate::handing::hand;
-use crate::meaning_errors::{earlier, is_none, note_width};
+use crate::Result;
+use crate::events::{Event, hand};
+use crate::meaning_errors::{FirstError, earlier, is_none, note_width};
 use crate::numbers::{OUTSIDE, note_tag, width_for};
 use crate::states::{Around, Here, Joint, Level, OpenBracket, Phase, Writer};
 use crate::strings::{is_endless, note_piece};
 use cborn_lex::Mark;
 use cborn_model::{Size, StringKind, Visitor, Width};
 use cborn_wire::Speller;
-use std::alloc::AllocError;
 
 /// The size of an array or a map with this indicator, whose number of items or pairs isn't known yet.
 #[inline(always)]
@@ -39,31 +37,19 @@ pub(crate) fn open_sized<V: Visitor>(
     here: &mut Here,
     writer: &mut Writer,
     visitor: &mut V,
-) -> Result<(), AllocError>
+) -> Result
     ensures { OnOk result ((st : Stack) (a : Place) → here.old.at ≡ a.start → Reads (V.holds visitor.old) here.old writer.old writer.old.pieces.items (wants st) → Reads (V.holds visitor.new) here.new writer.new writer.new.pieces.items (wants (after_opening is_map st a mark))) }
 {
     let place = here.at;
     let size = size_asked(mark);
     let spellers = &mut writer.spellers;
     if is_map {
-        hand(
-            Event::Map(size),
-            place,
-            &[],
-            writer.error,
-            spellers,
-            visitor,
-        )?;
+        let event = Event::Map(size);
+        hand(event, place, &[], writer.error, spellers, visitor)?;
         return open_bracket(Level::Key, mark, place, here, writer);
     }
-    hand(
-        Event::Array(size),
-        place,
-        &[],
-        writer.error,
-        spellers,
-        visitor,
-    )?;
+    let event = Event::Array(size);
+    hand(event, place, &[], writer.error, spellers, visitor)?;
     open_bracket(Level::Array, mark, place, here, writer)
 }
 
@@ -76,32 +62,20 @@ pub(crate) fn open_tag<V: Visitor>(
     here: &mut Here,
     writer: &mut Writer,
     visitor: &mut V,
-) -> Result<(), AllocError>
+) -> Result
     ensures { OnOk result ((st : Stack) (a : Place) → place ≡ a.start → Reads (V.holds visitor.old) here.old writer.old writer.old.pieces.items (wants st) → Reads (V.holds visitor.new) here.new writer.new writer.new.pieces.items (wants (in_tag st a number mark))) }
 {
     note_tag(number, mark, place, &mut writer.error);
-    let n = low_bits(number);
+    let n = (number % OUTSIDE) as u64;
     let event = Event::Tag(width_for(mark, n), n);
     let spellers = &mut writer.spellers;
     hand(event, place, &[], writer.error, spellers, visitor)?;
     open_bracket(Level::Tag, Mark::Absent, 0, here, writer)
 }
 
-/// The number in 64 bits, if it is below 2^64.
-#[inline(always)]
-fn low_bits(number: u128) -> u64
-    ensures { number < 2 ^ 64 → result ≡ number }
-{
-    (number % OUTSIDE) as u64
-}
-
 /// Opens a `<<` at `place`, as the first piece of a string or a later one.
 #[inline(always)]
-pub(crate) fn open_embedded(
-    place: usize,
-    here: &mut Here,
-    writer: &mut Writer,
-) -> Result<(), AllocError>
+pub(crate) fn open_embedded(place: usize, here: &mut Here, writer: &mut Writer) -> Result
     ensures shows { OnOk result ((h : Home) (o : Option Joined) (a : Place) → place ≡ a.start → Shows here.old writer.old writer.old.pieces.items (at_home h o) → Shows here.new writer.new writer.new.pieces.items (wants (in_row (in_embed h o a) no_item))) }
     ensures spellers { OnOk result ((p : OneSpeller) × (writer.new.spellers ≡ p ∷ writer.old.spellers) × ⟦<Speller as Visitor>⟧.holds p (top []) no_part) }
 {
@@ -111,7 +85,7 @@ pub(crate) fn open_embedded(
 
 /// Keeps what is around a `<<` that opens, and begins what is inside.
 #[inline(never)]
-fn open_around(writer: &mut Writer) -> Result<(), AllocError>
+fn open_around(writer: &mut Writer) -> Result
     ensures kept { OnOk result (writer.new ≡ record writer.old { start = length writer.old.pieces.items; around = record { start = writer.old.start; string = writer.old.string; chunks = writer.old.chunks; error = writer.old.error } ∷ writer.old.around; spellers = writer.new.spellers; string = None; chunks = None; error = None }) }
     ensures spellers { OnOk result ((p : OneSpeller) × (writer.new.spellers ≡ p ∷ writer.old.spellers) × ⟦<Speller as Visitor>⟧.holds p (top []) no_part) }
 {
@@ -134,7 +108,7 @@ fn open_bracket(
     place: usize,
     here: &mut Here,
     writer: &mut Writer,
-) -> Result<(), AllocError>
+) -> Result
     ensures here { OnOk result (here.new ≡ record { at = here.old.at; count = 0; phase = Wants; level = level }) }
     ensures writer { OnOk result (writer.new ≡ record writer.old { brackets = record { place = place; count = here.old.count; level = here.old.level; mark = mark } ∷ writer.old.brackets }) }
 {
@@ -182,7 +156,7 @@ fn shut(here: &mut Here, writer: &mut Writer) -> OpenBracket
 
 /// Notes what is wrong with the indicator of an array or a map of `count` items or pairs.
 #[inline(always)]
-fn note_size(bracket: OpenBracket, count: u64, error: &mut Option<MeaningError>)
+fn note_size(bracket: OpenBracket, count: u64, error: &mut FirstError)
     ensures { Notes error.old error.new (size_errors bracket.place bracket.mark count) }
 {
     if !is_endless(bracket.mark) {
@@ -196,7 +170,7 @@ pub(crate) fn close_sized<V: Visitor>(
     here: &mut Here,
     writer: &mut Writer,
     visitor: &mut V,
-) -> Result<(), AllocError>
+) -> Result
     requires small { here.old.count < 2 ^ 63 }
     requires open { 0 < length writer.old.brackets }
     ensures { OnOk result ((s u : State) (a : Place) → Sized a s u → Reads (V.holds visitor.old) here.old writer.old writer.old.pieces.items s → Reads (V.holds visitor.new) here.new writer.new writer.new.pieces.items u) }
@@ -210,11 +184,7 @@ pub(crate) fn close_sized<V: Visitor>(
 
 /// Ends a tag.
 #[inline(always)]
-pub(crate) fn close_tag<V: Visitor>(
-    here: &mut Here,
-    writer: &mut Writer,
-    visitor: &mut V,
-) -> Result<(), AllocError>
+pub(crate) fn close_tag<V: Visitor>(here: &mut Here, writer: &mut Writer, visitor: &mut V) -> Result
     requires { 0 < length writer.old.brackets }
     ensures { OnOk result ((st : Stack) (s a : Place) (n : ℕ) (m : Indicator) (i : Item) → Reads (V.holds visitor.old) here.old writer.old writer.old.pieces.items (has (in_tag st s n m) i) → Reads (V.holds visitor.new) here.new writer.new writer.new.pieces.items (has st (tag s n m i a))) }
 {
@@ -230,7 +200,7 @@ pub(crate) fn close_embedded(
     place: usize,
     here: &mut Here,
     writer: &mut Writer,
-) -> Result<(), AllocError>
+) -> Result
     requires { (h : Home) × (o : Option Joined) × (s : Place) × (c : Content) × Shows here.old writer.old writer.old.pieces.items (content_state (in_embed h o s) c) × IsSpelled writer.old.spellers (content_state (in_embed h o s) c) }
     ensures shows { OnOk result ((h : Home) (o : Option Joined) (s a : Place) (c : Content) → place ≡ a.start → Shows here.old writer.old writer.old.pieces.items (content_state (in_embed h o s) c) → IsSpelled writer.old.spellers (content_state (in_embed h o s) c) → Shows here.new writer.new writer.new.pieces.items (builds h (with_piece o (embedded s c a mark)))) }
     ensures spellers { OnOk result ((p : OneSpeller) × (writer.old.spellers ≡ p ∷ writer.new.spellers)) }
@@ -241,15 +211,9 @@ pub(crate) fn close_embedded(
     Ok(())
 }
 
-/// Ends a `<<` at `opened`, whose bracket was taken off, with a `>>` at `place`: it is then a piece of
-/// a string.
+/// Ends a `<<` at `opened`, whose bracket was taken off, with a `>>` at `place`.
 #[inline(never)]
-fn close_around(
-    mark: Mark,
-    opened: usize,
-    place: usize,
-    writer: &mut Writer,
-) -> Result<(), AllocError>
+fn close_around(mark: Mark, opened: usize, place: usize, writer: &mut Writer) -> Result
     requires { (here : Where) × (f : Opened) × (h : Home) × (o : Option Joined) × (s : Place) × (c : Content) × Shows here (record writer.old { brackets = f ∷ writer.old.brackets }) writer.old.pieces.items (content_state (in_embed h o s) c) × IsSpelled writer.old.spellers (content_state (in_embed h o s) c) }
     ensures shows { OnOk result ((here : Where) (f : Opened) (h : Home) (o : Option Joined) (s a : Place) (c : Content) → f.place ≡ opened → place ≡ a.start → Shows here (record writer.old { brackets = f ∷ writer.old.brackets }) writer.old.pieces.items (content_state (in_embed h o s) c) → IsSpelled writer.old.spellers (content_state (in_embed h o s) c) → Shows (record here { count = f.count; phase = Builds; level = f.level }) writer.new writer.new.pieces.items (builds h (with_piece o (embedded s c a mark)))) }
     ensures spellers { OnOk result ((p : OneSpeller) × (writer.old.spellers ≡ p ∷ writer.new.spellers)) }
@@ -274,7 +238,7 @@ fn close_around(
 
 /// Appends the bytes of what is embedded, if it is known.
 #[inline(always)]
-fn push_spelled(known: bool, speller: &Speller, pieces: &mut Vec<u8>) -> Result<(), AllocError>
+fn push_spelled(known: bool, speller: &Speller, pieces: &mut Vec<u8>) -> Result
     requires { known ≡ true → (ts : List Tree) × ⟦<Speller as Visitor>⟧.holds speller.now (top ts) no_part }
     ensures { OnOk result ((ts : List Tree) → (known ≡ true → ⟦<Speller as Visitor>⟧.holds speller.now (top ts) no_part) → pieces.new.items ≡ pieces.old.items ++ (if known then spelled_all (trees ts) else [])) }
 {
@@ -284,9 +248,8 @@ fn push_spelled(known: bool, speller: &Speller, pieces: &mut Vec<u8>) -> Result<
     Ok(())
 }
 
-/// The string of the pieces `before` and of one more, which is embedded: its `<<` is at `opened`, and
-/// its `>>` at `place`. `known` says that it has no meaning error. Notes what is wrong with the
-/// piece.
+/// The string of the pieces `before` and of one that is embedded, from the `<<` at `opened` to the `>>`
+/// at `place`, and has no meaning error if it is `known`. Notes what is wrong with the piece.
 #[inline(always)]
 fn with_embedded(
     before: Option<Joint>,
@@ -294,7 +257,7 @@ fn with_embedded(
     known: bool,
     mark: Mark,
     place: usize,
-    error: &mut Option<MeaningError>,
+    error: &mut FirstError,
 ) -> Joint
     ensures alone { (t : Str) → before ≡ None → t.kind ≡ OfBytes → t.place ≡ opened → t.lone ≡ false → t.known ≡ known → t.mark ≡ mark → t.mark_place ≡ place → (result ≡ joint t) × (error.new ≡ error.old) }
     ensures more { (s t : Str) → before ≡ Some (joint s) → t.kind ≡ OfBytes → t.place ≡ opened → t.known ≡ known → t.mark ≡ mark → t.mark_place ≡ place → (result ≡ joint (joined s t)) × Notes error.old error.new (piece_errors s t) }
@@ -306,7 +269,7 @@ fn with_embedded(
                 mark,
                 mark_place: place,
                 lone: false,
-                known: are_both(string.known, known),
+                known: string.known & known,
                 ..string
             }
         }
@@ -319,12 +282,4 @@ fn with_embedded(
             known,
         },
     }
-}
-
-/// Whether both hold.
-#[inline(always)]
-fn are_both(one: bool, other: bool) -> bool
-    ensures { result ≡ (one && other) }
-{
-    one && other
 }

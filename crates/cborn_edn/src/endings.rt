@@ -6,11 +6,11 @@ ghost use Rattle.cborn_edn.specs.Common.{EmbedClose, ParenClose};
 ghost use Rattle.cborn_edn.specs.devices.Common.{Span as Place, Item, Stack, State, has, Shows, Reads, MayEnd, Turned, Taken};
 ghost use Rattle.cborn_edn.specs.devices.Steps as pure;
 
+use crate::Result;
 use crate::containers::{close_embedded, close_sized, close_tag};
 use crate::states::{Here, Level, Phase, Writer};
 use cborn_lex::Mark;
 use cborn_model::Visitor;
-use std::alloc::AllocError;
 
 /// Whether the innermost bracket is of this kind.
 #[inline(always)]
@@ -32,8 +32,7 @@ fn is_row(level: Level) -> bool
     matches!(level, Level::Outside | Level::Array | Level::Embedded)
 }
 
-/// Whether the innermost bracket is a map that may end in this phase, before a key or after a value;
-/// or else whether it is an array.
+/// Whether the innermost bracket is a map that may end in this phase; or else whether it is an array.
 #[inline(always)]
 pub(crate) fn ends_sized(is_map: bool, phase: Phase, level: Level) -> bool
     ensures { result ≡ pure.ends_sized is_map phase level }
@@ -54,7 +53,7 @@ pub(crate) fn end_sized<V: Visitor>(
     here: &mut Here,
     writer: &mut Writer,
     visitor: &mut V,
-) -> Result<bool, AllocError>
+) -> Result<bool>
     requires few { here.old.count < 2 ^ 63 }
     requires shows { (s : State) × MayEnd s × Reads (V.holds visitor.old) here.old writer.old writer.old.pieces.items s }
     ensures taken { IfOk result (λ ok. (s : State) (a : Place) → MayEnd s → Reads (V.holds visitor.old) here.old writer.old writer.old.pieces.items s → Taken (V.holds visitor.new) ok s (pure.sized_end is_map) a here.new writer.new) }
@@ -75,7 +74,7 @@ pub(crate) fn end_embedded<V: Visitor>(
     here: &mut Here,
     writer: &mut Writer,
     visitor: &mut V,
-) -> Result<bool, AllocError>
+) -> Result<bool>
     requires { (s : State) × MayEnd s × Reads (V.holds visitor.old) here.old writer.old writer.old.pieces.items s }
     ensures taken { IfOk result (λ ok. (s : State) (a : Place) → place ≡ a.start → MayEnd s → Reads (V.holds visitor.old) here.old writer.old writer.old.pieces.items s → Taken (V.holds visitor.new) ok s (EmbedClose mark) a here.new writer.new) }
     ensures kept { IfOk result (λ ok. ok ≡ false → (here.new ≡ here.old) × (writer.new ≡ writer.old) × (visitor.new ≡ visitor.old)) }
@@ -93,7 +92,7 @@ pub(crate) fn end_tag<V: Visitor>(
     here: &mut Here,
     writer: &mut Writer,
     visitor: &mut V,
-) -> Result<bool, AllocError>
+) -> Result<bool>
     requires { (st : Stack) × (i : Item) × Reads (V.holds visitor.old) here.old writer.old writer.old.pieces.items (has st i) }
     ensures taken { IfOk result (λ ok. (st : Stack) (i : Item) (a : Place) → Reads (V.holds visitor.old) here.old writer.old writer.old.pieces.items (has st i) → Taken (V.holds visitor.new) ok (has st i) ParenClose a here.new writer.new) }
     ensures kept { IfOk result (λ ok. ok ≡ false → (here.new ≡ here.old) × (writer.new ≡ writer.old) × (visitor.new ≡ visitor.old)) }
@@ -105,8 +104,7 @@ pub(crate) fn end_tag<V: Visitor>(
     Ok(true)
 }
 
-/// Takes a colon after an item, if the item is a key; or else a comma, if another item or pair may
-/// follow there.
+/// Takes a colon after a key; or else a comma, if another item or pair may follow there.
 #[inline(always)]
 pub(crate) fn end_part(is_colon: bool, here: &mut Here, writer: &Writer) -> bool
     requires { here.old.count < 2 ^ 63 }

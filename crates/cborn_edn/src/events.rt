@@ -1,14 +1,18 @@
-//! What is handed to a visitor, one event after another.
+//! What is read is handed over, event by event, as it is read.
+//!
+//! What is outside of `<<..>>` goes to the visitor. What is inside is spelled, since it is the content
+//! of a string. After a meaning error nothing is handed over any more, since the text notates nothing.
 
-ghost use Rattle.std.specs.Prelude.{◌≡◌, OnOk, if◌then◌else◌};
+ghost use Rattle.std.specs.Prelude.{◌≡◌, ◌∷◌, List, true, OnOk, if◌then◌else◌};
 ghost use Rattle.cborn_edn.specs.Common.{Partial, put, no_part, IsFree};
-ghost use Rattle.cborn_edn.specs.devices.Common.{bignum_of, Fits, Follows};
+ghost use Rattle.cborn_edn.specs.devices.Common.{bignum_of, Fits, Follows, first_error, is_none, State, noted, Hands, AllHanded, InnermostFollows};
 
+use crate::Result;
+use crate::meaning_errors::{FirstError, is_none};
+use crate::spellers::Spellers;
 use cborn_model::{Size, StringKind, Visitor, Width, shortest};
-use std::alloc::AllocError;
 
-/// A head, a whole string or the end of a container. Its content, where it has one, is a value of its
-/// own.
+/// A head, a whole string or the end of a container. Its content is a value of its own.
 #[derive(Clone, Copy)]
 pub(crate) enum Event {
     Integer {
@@ -43,7 +47,7 @@ pub(crate) fn hand_to<V: Visitor>(
     place: usize,
     content: &[u8],
     visitor: &mut V,
-) -> Result<(), AllocError>
+) -> Result
     requires { Fits event content.now }
     ensures { OnOk result (Follows event place content.now (V.holds visitor.old) (V.holds visitor.new)) }
 {
@@ -68,26 +72,51 @@ pub(crate) fn hand_to<V: Visitor>(
     }
 }
 
-/// Hands over an integer outside 64 bits: a tag over a byte string (RFC 8949 section 3.4.3).
+/// Hands over an integer outside 64 bits: a byte string under the tag 2 or 3 (RFC 8949 section 3.4.3).
 #[cold]
 #[inline(never)]
-fn hand_bignum<V: Visitor>(
-    negative: bool,
-    place: u64,
-    bytes: &[u8],
-    visitor: &mut V,
-) -> Result<(), AllocError>
+fn hand_bignum<V: Visitor>(negative: bool, place: u64, bytes: &[u8], visitor: &mut V) -> Result
     ensures { OnOk result ((f : Partial) → IsFree f → V.holds visitor.old f no_part → V.holds visitor.new (put f (bignum_of place negative bytes.now)) no_part) }
 {
     let width = shortest(bytes.len() as u64);
-    visitor.open_tag(place, Width::Direct, bignum_tag(negative))?;
+    visitor.open_tag(place, Width::Direct, 2 + negative as u64)?;
     visitor.string(place, StringKind::OfBytes, width, bytes)?;
     visitor.close()
 }
 
-/// The tag number of an integer outside 64 bits: 3 below zero, else 2 (RFC 8949 section 3.4.3).
-fn bignum_tag(negative: bool) -> u64
-    ensures { result ≡ (if negative then 3 else 2) }
+/// Hands an event over, if there is no meaning error since the innermost `<<`.
+#[tactic(auto, using(crate::proofs::Lemmas::silenced))]
+#[inline(always)]
+pub(crate) fn hand<V: Visitor>(
+    event: Event,
+    place: usize,
+    content: &[u8],
+    error: FirstError,
+    spellers: &mut Spellers,
+    visitor: &mut V,
+) -> Result
+    requires { is_none error ≡ true → Fits event content.now }
+    ensures { OnOk result ((s u : State) (ss : List State) → error ≡ first_error (noted u) → Hands event place content.now s u → AllHanded (V.holds visitor.old) spellers.old (s ∷ ss) → AllHanded (V.holds visitor.new) spellers.new (u ∷ ss)) }
 {
-    if negative { 3 } else { 2 }
+    if !is_none(error) {
+        return Ok(());
+    }
+    if spellers.is_empty() {
+        return hand_to(event, place, content, visitor);
+    }
+    hand_inside(event, place, content, spellers)
+}
+
+/// Hands an event to the innermost speller. A copy of the event is made here, so that no memory is
+/// written for one that goes to the visitor.
+#[inline(always)]
+fn hand_inside(event: Event, place: usize, content: &[u8], spellers: &mut Spellers) -> Result
+    requires { Fits event content.now }
+    ensures { OnOk result (InnermostFollows event place content.now spellers.old spellers.new) }
+{
+    if let Event::Integer { negative, width, n } = event {
+        return spellers.integer(place, negative, width, n);
+    }
+    let copy = event;
+    spellers.hand(copy, place, content)
 }

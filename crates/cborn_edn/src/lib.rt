@@ -62,16 +62,14 @@
 //!
 //! Read the modules in this order:
 //!
-//! - `passes`: the loop over the tokens, and the answer at the end of the text.
+//! - `passes`: the loop over the tokens, how deep each goes, and the answer at the end of the text.
 //! - `states`: what is kept: the phase, the open brackets, and the string that is read.
-//! - `events`: what a visitor is handed. `handing`: to whom it goes. `spellers`: what writes the bytes
-//!   that are embedded.
-//! - `steps`: the grammar: what each token does in each phase. `tokens` says how deep a token goes.
-//!   `endings`, `containers`, `strings` and `numbers` change what is kept, and hand over. `meaning_errors`
-//!   keeps the first meaning error, and `refusals` reports syntax errors.
-//! - `white_space`, `marks`, `integers`, `words` and `texts`: frequent tokens are found in a text
-//!   without the lexer. `quick`, `quick_items` and `quick_ends` take them at once, and leave all
-//!   others to `tokens` and `steps`. They are for speed alone.
+//! - `events`: what a visitor is handed. `spellers`: what writes the bytes that are embedded.
+//! - `steps`: the grammar: what each token does in each phase. `endings`, `containers`, `strings` and
+//!   `numbers` change what is kept, and hand over. `meaning_errors` keeps the first meaning error.
+//! - `white_space` and `frequent`: frequent tokens are found in a text without the lexer. `quick`,
+//!   `quick_items` and `quick_ends` take them at once, and leave all others to `steps`. They are for
+//!   speed alone.
 //! - `readers`: a visitor builds nodes of what it is handed.
 //! - `notators`, `showing`, `shown_bytes` and `writing`: nodes become text, if each text string is
 //!   UTF-8.
@@ -86,10 +84,8 @@ mod containers;
 mod endings;
 mod events;
 mod faults;
-mod handing;
-mod integers;
+mod frequent;
 pub mod laws;
-mod marks;
 mod meaning_errors;
 mod notators;
 mod numbers;
@@ -98,17 +94,13 @@ mod quick;
 mod quick_ends;
 mod quick_items;
 mod readers;
-mod refusals;
 mod showing;
 mod shown_bytes;
 mod spellers;
 mod states;
 mod steps;
 mod strings;
-mod texts;
-mod tokens;
 mod white_space;
-mod words;
 mod writing;
 
 pub use faults::{EdnFault, EdnReason, ShowFault};
@@ -118,3 +110,7 @@ pub use passes::{read_text, visit_text};
 pub use readers::read_notation;
 pub use showing::show;
 pub use shown_bytes::{Notated, show_bytes};
+use std::alloc::AllocError;
+
+/// A result that is an error only where memory is refused, unless it names another error.
+type Result<T = (), E = AllocError> = std::result::Result<T, E>;

@@ -16,11 +16,11 @@ pub struct MeaningError {
     pub reason: EdnReason,
 }
 
+/// The first meaning error, if there is one.
+pub(crate) type FirstError = Option<MeaningError>;
+
 /// The first of two meaning errors.
-pub(crate) fn earlier(
-    one: Option<MeaningError>,
-    other: Option<MeaningError>,
-) -> Option<MeaningError>
+pub(crate) fn earlier(one: FirstError, other: FirstError) -> FirstError
     ensures { result ≡ pure.earlier one other }
 {
     match (one, other) {
@@ -40,7 +40,7 @@ fn no_later(a: MeaningError, b: MeaningError) -> bool
 /// Notes one more meaning error: `error` keeps the first of both.
 #[cold]
 #[inline(never)]
-pub(crate) fn note(place: usize, reason: EdnReason, error: &mut Option<MeaningError>)
+pub(crate) fn note(place: usize, reason: EdnReason, error: &mut FirstError)
     ensures { Notes error.old error.new (says.unless false place reason) }
 {
     let place = place as u64;
@@ -49,12 +49,7 @@ pub(crate) fn note(place: usize, reason: EdnReason, error: &mut Option<MeaningEr
 
 /// Notes a meaning error at `place`, unless `good` holds.
 #[inline(always)]
-pub(crate) fn note_unless(
-    holds: bool,
-    place: usize,
-    reason: EdnReason,
-    error: &mut Option<MeaningError>,
-)
+pub(crate) fn note_unless(holds: bool, place: usize, reason: EdnReason, error: &mut FirstError)
     ensures { Notes error.old error.new (says.unless holds place reason) }
 {
     if !holds {
@@ -62,10 +57,9 @@ pub(crate) fn note_unless(
     }
 }
 
-/// Notes what is wrong with the indicator at `place` of a head with the argument `n`, whose length
-/// can't be indefinite.
+/// Notes what is wrong with the indicator at `place` of a definite head with the argument `n`.
 #[inline(always)]
-pub(crate) fn note_width(mark: Mark, n: u64, place: usize, error: &mut Option<MeaningError>)
+pub(crate) fn note_width(mark: Mark, n: u64, place: usize, error: &mut FirstError)
     ensures { Notes error.old error.new (says.width_errors place mark n) }
 {
     match mark {
@@ -79,7 +73,7 @@ pub(crate) fn note_width(mark: Mark, n: u64, place: usize, error: &mut Option<Me
 
 /// Whether there is no meaning error.
 #[inline(always)]
-pub(crate) fn is_none(error: Option<MeaningError>) -> bool
+pub(crate) fn is_none(error: FirstError) -> bool
     ensures { result ≡ pure.is_none error }
 {
     matches!(error, None)

@@ -1,57 +1,45 @@
 //! The visitor [`Notator`], which writes the fixed notation.
 
-ghost use Rattle.std.specs.Prelude.{◌≡◌, ◌++◌, ◌∷◌, ℕ, List, [], length, drop, None, OnOk, IfOk, IfErr};
+ghost use Rattle.std.specs.Prelude.{◌≡◌, ◌++◌, ◌∷◌, ℕ, List, [], true, false, length, drop, None, OnOk, IfOk, IfErr};
 ghost use Rattle.cborn_model.specs.Tree.{Tree, trees};
 ghost use Rattle.cborn_model.specs.Spelled.{FitsAll};
 ghost use Rattle.cborn_model.specs.Partial.{top, an_array, a_map, no_part};
 ghost use Rattle.cborn_edn.specs.declared.notators.Late.{Late};
-ghost use Rattle.cborn_edn.specs.Says.{is_good};
 ghost use Rattle.cborn_edn.specs.Shown.{Shown, IsShowFault};
 ghost use Rattle.cborn_edn.specs.devices.Notating as pure;
 ghost use Rattle.cborn_edn.specs.devices.Notating.{IsHeld, IsCounted, IsEnded};
 
-use crate::ShowFault;
+use crate::strings::is_good;
 use crate::writing::{
     push_bracket, push_content, push_integer, push_quote, push_simple, push_size, push_string_end,
     push_tag,
 };
+use crate::{Result, ShowFault};
 use cborn_model::{Size, StringKind, Visitor, Width, ended_size};
-use std::alloc::{AllocError, Global};
+use std::alloc::Global;
 
-/// What comes next in a container, or in the input.
+/// What comes next in a container, or in the input. The late ones are in an array or a map whose
+/// indicator is still to be written.
 #[derive(Clone, Copy)]
 pub(crate) enum Next {
-    /// The first item of the input.
     FirstItem,
-    /// A further item of the input.
     Item,
-    /// The first element of an array.
     FirstElement,
-    /// A further element.
     Element,
-    /// The first key of a map.
     FirstKey,
-    /// A further key.
     Key,
     /// The value of a key.
     Value,
     /// The content of a tag.
     Content,
-    /// The end of a tag.
     TagEnd,
     /// The first chunk of a string of this kind.
     FirstChunk(StringKind),
-    /// A further chunk.
     Chunk,
-    /// The first element of an array whose indicator is still to be written.
     FirstLateElement,
-    /// A further element of such an array.
     LateElement,
-    /// The first key of a map whose indicator is still to be written.
     FirstLateKey,
-    /// A further key of such a map.
     LateKey,
-    /// The value of a key of such a map.
     LateValue,
 }
 
@@ -77,7 +65,7 @@ impl Next {
 
 /// Appends what is written before the part that comes next.
 #[inline(always)]
-fn push_separator(next: Next, out: &mut Vec<u8>) -> Result<(), AllocError>
+fn push_separator(next: Next, out: &mut Vec<u8>) -> Result
     ensures { OnOk result (out.new.items ≡ out.old.items ++ pure.separator next) }
 {
     match next {
@@ -92,7 +80,7 @@ fn push_separator(next: Next, out: &mut Vec<u8>) -> Result<(), AllocError>
 
 /// Appends what is written where a container ends and this would come next.
 #[inline(always)]
-fn push_ending(next: Next, out: &mut Vec<u8>) -> Result<(), AllocError>
+fn push_ending(next: Next, out: &mut Vec<u8>) -> Result
     ensures { OnOk result (out.new.items ≡ out.old.items ++ pure.ending next) }
 {
     match next {
@@ -172,10 +160,7 @@ impl Notator {
     }
 
     /// What [`Notator::finish`] gives where each text is UTF-8.
-    ///
-    /// # Errors
-    /// `AllocError` if memory is refused.
-    pub(crate) fn into_text(self) -> Result<Vec<u8>, AllocError>
+    pub(crate) fn into_text(self) -> Result<Vec<u8>>
         requires { self.bad ≡ None }
         ensures { IfOk result (λ text. (ts : List Tree) → FitsAll (trees ts) → ⟦<Notator as Visitor>⟧.holds self (top ts) no_part → Shown (trees ts) text.items) }
     {
@@ -186,7 +171,7 @@ impl Notator {
 
     /// Writes what comes before the next part.
     #[inline(always)]
-    fn begin(&mut self) -> Result<(), AllocError>
+    fn begin(&mut self) -> Result
         ensures next { self.new.next ≡ self.old.next }
         ensures around { self.new.around ≡ self.old.around }
         ensures string { self.new.string ≡ self.old.string }
@@ -204,7 +189,7 @@ impl Notator {
     /// Writes what comes before an element of an array or a key of a map, and counts it.
     #[cold]
     #[inline(never)]
-    fn begin_late(&mut self) -> Result<(), AllocError>
+    fn begin_late(&mut self) -> Result
         ensures next { self.new.next ≡ self.old.next }
         ensures around { self.new.around ≡ self.old.around }
         ensures string { self.new.string ≡ self.old.string }
@@ -221,13 +206,7 @@ impl Notator {
 
     /// Begins an array or a map, in which `first` comes next.
     #[inline(always)]
-    fn open(
-        &mut self,
-        bracket: u8,
-        size: Size,
-        count: Option<u64>,
-        first: Next,
-    ) -> Result<(), AllocError>
+    fn open(&mut self, bracket: u8, size: Size, count: Option<u64>, first: Next) -> Result
         ensures around { OnOk result (self.new.around.items ≡ self.old.around.items ++ self.old.next ∷ []) }
         ensures next { OnOk result (self.new.next ≡ first) }
         ensures bad { self.new.bad ≡ self.old.bad }
@@ -248,7 +227,7 @@ impl Notator {
 
     /// Writes what ends the container that ends here.
     #[inline(always)]
-    fn end(&mut self) -> Result<(), AllocError>
+    fn end(&mut self) -> Result
         ensures next { self.new.next ≡ self.old.next }
         ensures around { self.new.around ≡ self.old.around }
         ensures bad { self.new.bad ≡ self.old.bad }
@@ -264,7 +243,7 @@ impl Notator {
     /// Writes what ends an array or a map, and its indicator.
     #[cold]
     #[inline(never)]
-    fn end_late(&mut self) -> Result<(), AllocError>
+    fn end_late(&mut self) -> Result
         ensures next { self.new.next ≡ self.old.next }
         ensures around { self.new.around ≡ self.old.around }
         ensures bad { self.new.bad ≡ self.old.bad }
@@ -278,7 +257,7 @@ impl Notator {
 
     /// Enters a container, in which `first` comes next.
     #[inline(always)]
-    fn enter(&mut self, first: Next) -> Result<(), AllocError>
+    fn enter(&mut self, first: Next) -> Result
         ensures around { OnOk result (self.new.around.items ≡ self.old.around.items ++ self.old.next ∷ []) }
         ensures next { OnOk result (self.new.next ≡ first) }
         ensures out { self.new.out ≡ self.old.out }
@@ -291,14 +270,14 @@ impl Notator {
     }
 
     /// Ends the text of a string, or notes that it isn't UTF-8.
-    fn end_string(&mut self, string: OpenString) -> Result<(), AllocError>
+    fn end_string(&mut self, string: OpenString) -> Result
         ensures next { self.new.next ≡ self.old.next }
         ensures around { self.new.around ≡ self.old.around }
         ensures lates { self.new.lates ≡ self.old.lates }
         ensures bad { OnOk result (self.new.bad ≡ pure.lowest_with self.old.bad string (drop string.start self.old.out.items)) }
         ensures out { OnOk result (self.new.bad ≡ None → self.new.out.items ≡ self.old.out.items ++ pure.string_end string.kind string.width string.len) }
     {
-        if !is_showable(string.kind, written_from(string.start, &self.out)) {
+        if !is_good(string.kind, written_from(string.start, &self.out)) {
             self.bad = Some(least(self.bad, string.place));
         }
         if self.bad.is_some() {
@@ -314,13 +293,7 @@ impl Visitor for Notator {
 
     ghost takes_memory = { Unit {0} };
 
-    fn integer(
-        &mut self,
-        _place: u64,
-        negative: bool,
-        width: Width,
-        n: u64,
-    ) -> Result<(), AllocError> {
+    fn integer(&mut self, _place: u64, negative: bool, width: Width, n: u64) -> Result {
         if self.bad.is_none() {
             self.begin()?;
             push_integer(negative, width, n, &mut self.out)?;
@@ -329,7 +302,7 @@ impl Visitor for Notator {
         Ok(())
     }
 
-    fn simple(&mut self, _place: u64, n: u8) -> Result<(), AllocError> {
+    fn simple(&mut self, _place: u64, n: u8) -> Result {
         if self.bad.is_none() {
             self.begin()?;
             push_simple(n, &mut self.out)?;
@@ -338,20 +311,15 @@ impl Visitor for Notator {
         Ok(())
     }
 
-    fn open_array(
-        &mut self,
-        _place: u64,
-        size: Size,
-        count: Option<u64>,
-    ) -> Result<(), AllocError> {
-        self.open(b'[', size, count, first_element(size, count))
+    fn open_array(&mut self, _place: u64, size: Size, count: Option<u64>) -> Result {
+        self.open(b'[', size, count, first_in(false, size, count))
     }
 
-    fn open_map(&mut self, _place: u64, size: Size, count: Option<u64>) -> Result<(), AllocError> {
-        self.open(b'{', size, count, first_key(size, count))
+    fn open_map(&mut self, _place: u64, size: Size, count: Option<u64>) -> Result {
+        self.open(b'{', size, count, first_in(true, size, count))
     }
 
-    fn open_tag(&mut self, _place: u64, width: Width, n: u64) -> Result<(), AllocError> {
+    fn open_tag(&mut self, _place: u64, width: Width, n: u64) -> Result {
         if self.bad.is_none() {
             self.begin()?;
             push_tag(width, n, &mut self.out)?;
@@ -359,14 +327,14 @@ impl Visitor for Notator {
         self.enter(Next::Content)
     }
 
-    fn open_chunks(&mut self, _place: u64, kind: StringKind) -> Result<(), AllocError> {
+    fn open_chunks(&mut self, _place: u64, kind: StringKind) -> Result {
         if self.bad.is_none() {
             self.begin()?;
         }
         self.enter(Next::FirstChunk(kind))
     }
 
-    fn close(&mut self) -> Result<(), AllocError> {
+    fn close(&mut self) -> Result {
         if self.bad.is_none() {
             self.end()?;
         }
@@ -376,13 +344,7 @@ impl Visitor for Notator {
         Ok(())
     }
 
-    fn open_string(
-        &mut self,
-        place: u64,
-        kind: StringKind,
-        width: Width,
-        len: u64,
-    ) -> Result<(), AllocError> {
+    fn open_string(&mut self, place: u64, kind: StringKind, width: Width, len: u64) -> Result {
         self.begin()?;
         push_quote(kind, &mut self.out)?;
         let start = self.out.len();
@@ -396,14 +358,14 @@ impl Visitor for Notator {
         Ok(())
     }
 
-    fn part(&mut self, bytes: &[u8]) -> Result<(), AllocError> {
+    fn part(&mut self, bytes: &[u8]) -> Result {
         match self.string {
             Some(string) => push_content(string.kind, bytes, &mut self.out),
             None => Ok(()),
         }
     }
 
-    fn close_string(&mut self) -> Result<(), AllocError> {
+    fn close_string(&mut self) -> Result {
         if let Some(string) = self.string {
             self.end_string(string)?;
         }
@@ -412,30 +374,22 @@ impl Visitor for Notator {
     }
 }
 
-/// What comes first in an array.
+/// What comes first in a map, or else in an array.
 #[inline(always)]
-fn first_element(size: Size, count: Option<u64>) -> Next
-    ensures { (place : ℕ) → result ≡ pure.first (an_array place size count) }
+fn first_in(is_map: bool, size: Size, count: Option<u64>) -> Next
+    ensures array { (place : ℕ) → is_map ≡ false → result ≡ pure.first (an_array place size count) }
+    ensures map { (place : ℕ) → is_map ≡ true → result ≡ pure.first (a_map place size count) }
 {
     match (size, count) {
+        (Size::Fixed(_), None) if is_map => Next::FirstLateKey,
         (Size::Fixed(_), None) => Next::FirstLateElement,
+        _ if is_map => Next::FirstKey,
         _ => Next::FirstElement,
     }
 }
 
-/// What comes first in a map.
-#[inline(always)]
-fn first_key(size: Size, count: Option<u64>) -> Next
-    ensures { (place : ℕ) → result ≡ pure.first (a_map place size count) }
-{
-    match (size, count) {
-        (Size::Fixed(_), None) => Next::FirstLateKey,
-        _ => Next::FirstKey,
-    }
-}
-
 /// Inserts the indicator of an array or a map that ends. What follows its bracket is moved.
-fn insert_size(late: Late, out: &mut Vec<u8>) -> Result<(), AllocError>
+fn insert_size(late: Late, out: &mut Vec<u8>) -> Result
     ensures { OnOk result ((x y : List ℕ) → out.old.items ≡ x ++ y → late.at ≡ length x → out.new.items ≡ x ++ (pure.late_size late.width late.count ++ y)) }
 {
     let end = out.len();
@@ -457,18 +411,6 @@ fn written_from(start: usize, out: &[u8]) -> &[u8]
         return &[];
     }
     &out[start..]
-}
-
-/// Whether a string of this kind may be shown, of whose content this is written: a text has to be
-/// UTF-8, and escapes leave that alone. Most are short and ASCII, which is quicker to see.
-#[inline]
-fn is_showable(kind: StringKind, written: &[u8]) -> bool
-    ensures { result ≡ is_good kind written.now }
-{
-    match kind {
-        StringKind::OfBytes => true,
-        StringKind::OfText => written.is_ascii() || simdutf8::is_utf8(written),
-    }
 }
 
 /// The lower of two places.

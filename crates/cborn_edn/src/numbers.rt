@@ -5,14 +5,12 @@ ghost use Rattle.cborn_edn.specs.Common.{digits_of, Mark as Indicator, Writer as
 ghost use Rattle.cborn_edn.specs.devices.Common.{Span as Place, number, word, simple, Stack, State, wants, has, wants_number, has_number, Shows, noted, Hands, AllHanded, Reads, Notes, first_error};
 ghost use Rattle.cborn_edn.specs.Says as says;
 
-use crate::events::Event;
-use crate::handing::hand;
-use crate::meaning_errors::{is_none, note, note_unless, note_width};
+use crate::events::{Event, hand};
+use crate::meaning_errors::{FirstError, is_none, note, note_unless, note_width};
 use crate::states::{Here, Phase, Writer};
-use crate::{EdnReason, MeaningError};
+use crate::{EdnReason, Result};
 use cborn_lex::Mark;
 use cborn_model::{Visitor, Width, is_simple_value, shortest};
-use std::alloc::AllocError;
 
 /// The number of a token: `magnitude`, or `-magnitude` if `negative`, with its indicator.
 #[derive(Clone, Copy)]
@@ -66,7 +64,7 @@ pub(crate) fn is_small(negative: bool, magnitude: u128) -> bool
 
 /// Notes what is wrong with the indicator of an integer at `place`.
 #[inline(always)]
-fn note_number(numeral: Numeral, place: usize, error: &mut Option<MeaningError>)
+fn note_number(numeral: Numeral, place: usize, error: &mut FirstError)
     ensures { Notes error.old error.new (says.number_errors place numeral.negative numeral.magnitude numeral.mark) }
 {
     let argument = argument_of(numeral.negative, numeral.magnitude);
@@ -80,7 +78,7 @@ fn note_number(numeral: Numeral, place: usize, error: &mut Option<MeaningError>)
 
 /// Appends the bytes of `n`, the highest first, without leading zeros.
 #[tactic(auto, using(crate::proofs::Reader::Modest::one_digit))]
-fn push_digits(n: u128, out: &mut Vec<u8>) -> Result<(), AllocError>
+fn push_digits(n: u128, out: &mut Vec<u8>) -> Result
     ensures { OnOk result (out.new.items ≡ out.old.items ++ digits_of 256 n) }
 {
     if n > 0 {
@@ -100,7 +98,7 @@ pub(crate) fn is_absent(mark: Mark) -> bool
 
 /// Notes what is wrong with the number of a tag, and with its indicator.
 #[inline(always)]
-pub(crate) fn note_tag(number: u128, mark: Mark, place: usize, error: &mut Option<MeaningError>)
+pub(crate) fn note_tag(number: u128, mark: Mark, place: usize, error: &mut FirstError)
     ensures { Notes error.old error.new (says.tag_errors place mark number) }
 {
     if number < OUTSIDE {
@@ -111,7 +109,7 @@ pub(crate) fn note_tag(number: u128, mark: Mark, place: usize, error: &mut Optio
 }
 
 /// Notes what is wrong with the simple value of a number at `place`, whose `simple(` is at `opened`.
-fn note_simple(numeral: Numeral, opened: usize, place: usize, error: &mut Option<MeaningError>)
+fn note_simple(numeral: Numeral, opened: usize, place: usize, error: &mut FirstError)
     ensures { Notes error.old error.new (says.simple_errors opened place numeral.negative numeral.magnitude numeral.mark) }
 {
     let good = is_simple(numeral.negative, numeral.magnitude);
@@ -135,7 +133,7 @@ pub(crate) fn put_number<V: Visitor>(
     here: &mut Here,
     writer: &mut Writer,
     visitor: &mut V,
-) -> Result<(), AllocError>
+) -> Result
     ensures { OnOk result ((st : Stack) (a : Place) → place ≡ a.start → Reads (V.holds visitor.old) here.old writer.old writer.old.pieces.items (wants st) → Reads (V.holds visitor.new) here.new writer.new writer.new.pieces.items (has st (number a numeral.negative numeral.magnitude numeral.mark))) }
 {
     here.phase = Phase::Has;
@@ -161,7 +159,7 @@ fn put_bignum<V: Visitor>(
     place: usize,
     writer: &mut Writer,
     visitor: &mut V,
-) -> Result<(), AllocError>
+) -> Result
     ensures rest { OnOk result (writer.new ≡ record writer.old { pieces = writer.new.pieces; spellers = writer.new.spellers }) }
     ensures pieces { OnOk result (writer.new.pieces.items ≡ writer.old.pieces.items) }
     ensures handed { OnOk result ((s u : State) (ss : List State) → writer.old.error ≡ first_error (noted u) → Hands (Bignum negative) place (digits_of 256 n) s u → AllHanded (V.holds visitor.old) writer.old.spellers (s ∷ ss) → AllHanded (V.holds visitor.new) writer.new.spellers (u ∷ ss)) }
@@ -185,7 +183,7 @@ pub(crate) fn put_word<V: Visitor>(
     here: &mut Here,
     writer: &mut Writer,
     visitor: &mut V,
-) -> Result<(), AllocError>
+) -> Result
     requires { n < 24 }
     ensures { OnOk result ((st : Stack) (a : Place) → place ≡ a.start → Reads (V.holds visitor.old) here.old writer.old writer.old.pieces.items (wants st) → Reads (V.holds visitor.new) here.new writer.new writer.new.pieces.items (has st (word a n))) }
 {
@@ -204,7 +202,7 @@ pub(crate) fn put_simple<V: Visitor>(
     here: &mut Here,
     writer: &mut Writer,
     visitor: &mut V,
-) -> Result<(), AllocError>
+) -> Result
     ensures { OnOk result ((st : Stack) (s a : Place) → place ≡ a.start → Reads (V.holds visitor.old) here.old writer.old writer.old.pieces.items (wants_number st s) → Reads (V.holds visitor.new) here.new writer.new writer.new.pieces.items (has_number st s a numeral.negative numeral.magnitude numeral.mark)) }
 {
     here.phase = Phase::HasNumber;

@@ -1,25 +1,25 @@
 //! A whole text, read token by token: its nodes, handed to a visitor, or why it has none.
 
-ghost use Rattle.std.specs.Prelude.{◌≡◌, ◌<◌, ◌^◌, List, [], length, IfOk, IfErr, OnOk};
+ghost use Rattle.std.specs.Prelude.{◌≡◌, ◌≤◌, ◌<◌, ◌^◌, ◌⊎◌, ℕ, List, [], length, IfOk, IfErr, OnOk};
 ghost use Rattle.cborn_edn.specs.Cited.{IsNoNotation, Notates};
-ghost use Rattle.cborn_edn.specs.devices.Common.{State, start, Reads, IsReading, IsInside, Judged, Last, AtEnd, of_text, Input, Shows};
-ghost use Rattle.cborn_edn.specs.Common.{Tree, trees, FitsAll, top, no_part};
+ghost use Rattle.cborn_edn.specs.devices.Common.{State, start, Reads, IsReading, IsInside, Judged, Last, AtEnd, of_text, Input, Shows, lexical, reach};
+ghost use Rattle.cborn_edn.specs.Common.{Tree, trees, FitsAll, top, no_part, TokensBetween, HasNoTokenFrom, Token, LexFault as LexStop, class_of};
+ghost use Rattle.cborn_edn.specs.declared.faults.EdnFault.TheVariants.{Refused};
 ghost use Rattle.cborn_edn.specs.Spelling.{IsSpelling};
 ghost use Rattle.cborn_edn.specs.devices.Reading as pure;
 
+use crate::numbers::is_small;
 use crate::quick::take_common;
 use crate::quick_items::take_marked;
-use crate::refusals::{first_fault, refused};
 use crate::spellers::Spellers;
 use crate::states::{Chunks, Here, Level, Opened, Phase, Source, Writer};
 use crate::steps::take;
 use crate::strings::end_item;
-use crate::tokens::{is_trailing_comma, reach_of};
-use crate::{EdnFault, EdnReason};
-use cborn_lex::{Profile, next_token};
+use crate::{EdnFault, EdnReason, Result};
+use cborn_lex::{Kind, Profile, next_token};
 use cborn_model::{Limit, Visitor};
 use cborn_wire::Speller;
-use std::alloc::{AllocError, Global};
+use std::alloc::Global;
 
 /// The bytes that the nodes spell which `text` notates in that profile of the notation, none of
 /// them deeper than `limit` (RFC 8949 section 8, RFC 8610 appendix G). The text is read once.
@@ -125,8 +125,7 @@ fn read_tokens<V: Visitor>(
     Ok(here)
 }
 
-/// Takes what is next in the text, where `take_common` takes nothing: one token, or the white space up to
-/// the text's end.
+/// Takes one token, or the white space up to the text's end, where `take_common` takes nothing.
 fn take_rare<V: Visitor>(
     alloc: Global,
     limit: u64,
@@ -174,10 +173,7 @@ fn take_rare<V: Visitor>(
 fn judge(trailing: bool, taken: bool, reach: u64, limit: u64) -> Option<EdnReason>
     ensures { Judged trailing taken reach limit result }
 {
-    if trailing {
-        return Some(EdnReason::UnexpectedToken);
-    }
-    if !taken {
+    if trailing || !taken {
         return Some(EdnReason::UnexpectedToken);
     }
     if reach > limit {
@@ -234,7 +230,7 @@ fn may_end(phase: Phase, level: Level, chunks: Option<Chunks>) -> bool
 }
 
 /// Ends the last string, if the text ends with one.
-fn end_last<V: Visitor>(here: Here, writer: &mut Writer, visitor: &mut V) -> Result<(), AllocError>
+fn end_last<V: Visitor>(here: Here, writer: &mut Writer, visitor: &mut V) -> Result
     requires { (s : State) × (t : Input) × Last s t × Reads (V.holds visitor.old) here writer.old writer.old.pieces.items s }
     ensures { OnOk result ((s : State) (t : Input) → Last s t → Reads (V.holds visitor.old) here writer.old writer.old.pieces.items s → AtEnd (V.holds visitor.new) t writer.new) }
 {
@@ -251,4 +247,61 @@ fn ends_string(phase: Phase) -> bool
     ensures { result ≡ pure.ends_string phase }
 {
     matches!(phase, Phase::Builds)
+}
+
+/// Whether a token is a bracket that ends after a comma, which profile 1 doesn't allow.
+#[inline(always)]
+fn is_trailing_comma(profile: Profile, phase: Phase, kind: Kind) -> bool
+    ensures { result ≡ pure.is_trailing_comma profile phase kind }
+{
+    match (profile, phase, kind) {
+        (Profile::One, Phase::WantsMore, Kind::ArrayClose | Kind::MapClose) => true,
+        (Profile::One, Phase::WantsMore, Kind::EmbedClose(_)) => true,
+        _ => false,
+    }
+}
+
+/// The nesting depth that a token needs inside `levels` open brackets: one more for a bracket that
+/// opens, and `levels` for an integer. An integer outside 64 bits is a tag over a byte string, so
+/// it needs one more, too. 0 for any other token.
+#[inline(always)]
+fn reach_of(levels: u64, kind: Kind, number: u128) -> u64
+    requires { levels < 2 ^ 63 }
+    ensures { (x : List ℕ) → result ≡ reach levels (class_of kind number x) }
+{
+    match kind {
+        Kind::ArrayOpen(_) | Kind::MapOpen(_) | Kind::EmbedOpen | Kind::TagOpen(_) => levels + 1,
+        Kind::Number { negative, .. } if is_small(negative, number) => levels,
+        Kind::Number { .. } => levels + 1,
+        _ => 0,
+    }
+}
+
+/// The syntax error at `place`, for this reason.
+fn refused(place: usize, reason: EdnReason) -> EdnFault
+    ensures { result ≡ Refused place reason }
+{
+    let place = place as u64;
+    EdnFault::Refused { place, reason }
+}
+
+/// The lexical fault from the offset `at` on, if there is one, and else the syntax error `fault`.
+#[cold]
+#[inline(never)]
+fn first_fault(alloc: Global, profile: Profile, text: &str, at: usize, fault: EdnFault) -> EdnFault
+    requires { at ≤ length text.now }
+    ensures { ((tokens : List Token) × TokensBetween profile text.now at (length text.now) tokens × (result ≡ fault)) ⊎ ((stop : LexStop) × HasNoTokenFrom profile text.now at stop × (result ≡ lexical stop)) }
+{
+    let mut content = Vec::new(alloc);
+    let mut number: u128 = 0;
+    let mut place = at;
+    'tokens: loop {
+        content.clear();
+        let token = match next_token(alloc, profile, text, place, &mut number, &mut content) {
+            Ok(Some(token)) => token,
+            Ok(None) => return fault,
+            Err(stop) => return EdnFault::from(stop),
+        };
+        place = token.stop;
+    }
 }

@@ -9,7 +9,8 @@ ghost use Rattle.cborn_edn.specs.Common.{Profile, TokensBetween};
 ghost use Rattle.cborn_edn.specs.devices.Common.{IsInside, Goes};
 ghost use Rattle.cborn_edn.specs.declared.states.Phase.TheVariants as phases;
 
-use crate::integers::integer_at;
+use crate::Result;
+use crate::frequent::{has_byte_at, integer_at};
 use crate::numbers::{Numeral, close_simple, put_simple};
 use crate::quick_ends::{take_after, take_after_pieces, take_sized_ends};
 use crate::quick_items::{
@@ -18,7 +19,6 @@ use crate::quick_items::{
 use crate::states::{Here, Phase, Source, Writer};
 use crate::white_space::{begins_white_space, skip_white_space};
 use cborn_model::Visitor;
-use std::alloc::AllocError;
 
 /// Takes what is next in the text, if it is frequent.
 #[inline(always)]
@@ -27,7 +27,7 @@ pub(crate) fn take_common<V: Visitor>(
     here: &mut Here,
     writer: &mut Writer,
     visitor: &mut V,
-) -> Result<bool, AllocError>
+) -> Result<bool>
     requires { IsInside (V.holds visitor.old) source here.old writer.old }
     ensures { IfOk result (Goes (V.holds visitor.new) source.entry here.old here.new writer.new) }
 {
@@ -45,7 +45,7 @@ fn take_before<V: Visitor>(
     here: &mut Here,
     writer: &mut Writer,
     visitor: &mut V,
-) -> Result<bool, AllocError>
+) -> Result<bool>
     requires { IsInside (V.holds visitor.old) source here.old writer.old }
     ensures { IfOk result (Goes (V.holds visitor.new) source.entry here.old here.new writer.new) }
 {
@@ -71,15 +71,6 @@ fn take_before<V: Visitor>(
     }
 }
 
-/// Whether `text` has the byte `c` at the offset `at`.
-#[inline(always)]
-fn has_byte_at(c: u8, text: &[u8], at: usize) -> bool
-    ensures within { result ≡ true → at < length text.now }
-    ensures is { result ≡ true → slice_index text.now at ≡ c }
-{
-    at < text.len() && text[at] == c
-}
-
 /// Passes over a space, if there is one.
 #[tactic(auto, using(crate::proofs::Reader::CommonTokens::white_here))]
 #[inline(always)]
@@ -103,7 +94,7 @@ pub(crate) fn take_white_space<V: Visitor>(
     here: &mut Here,
     writer: &mut Writer,
     visitor: &mut V,
-) -> Result<bool, AllocError>
+) -> Result<bool>
     requires { IsInside (V.holds visitor.old) source here.old writer.old }
     ensures { IfOk result (Goes (V.holds visitor.new) source.entry here.old here.new writer.new) }
 {
@@ -131,7 +122,7 @@ fn take_simple_number<V: Visitor>(
     here: &mut Here,
     writer: &mut Writer,
     visitor: &mut V,
-) -> Result<bool, AllocError>
+) -> Result<bool>
     requires inside { IsInside (V.holds visitor.old) source here.old writer.old }
     requires number { here.old.phase ≡ phases.WantsNumber }
     ensures { IfOk result (Goes (V.holds visitor.new) source.entry here.old here.new writer.new) }
@@ -139,10 +130,7 @@ fn take_simple_number<V: Visitor>(
     let Some(found) = integer_at(source.text.as_bytes(), here.at) else {
         return Ok(false);
     };
-    if found.is_tag {
-        return Ok(false);
-    }
-    if writer.brackets.count() > source.limit {
+    if found.is_tag || writer.brackets.count() > source.limit {
         return Ok(false);
     }
     let numeral = Numeral {
@@ -162,7 +150,7 @@ fn take_simple_end<V: Visitor>(
     here: &mut Here,
     writer: &mut Writer,
     visitor: &mut V,
-) -> Result<bool, AllocError>
+) -> Result<bool>
     requires inside { IsInside (V.holds visitor.old) source here.old writer.old }
     requires number { here.old.phase ≡ phases.HasNumber }
     ensures { IfOk result (Goes (V.holds visitor.new) source.entry here.old here.new writer.new) }

@@ -6,15 +6,14 @@ ghost use Rattle.cborn_edn.specs.declared.states.Phase.TheVariants as phases;
 ghost use Rattle.cborn_edn.specs.devices.Common.{IsInside, Goes};
 ghost use Rattle.cborn_edn.specs.devices.Steps as pure;
 
+use crate::Result;
 use crate::containers::close_sized;
 use crate::endings::{end_embedded, end_part, end_tag, ends_sized};
-use crate::marks::embed_end_at;
+use crate::frequent::{embed_end_at, ends_string, has_byte_at};
 use crate::quick::{skip_space, take_white_space};
 use crate::states::{Here, Source, Writer};
 use crate::strings::{end_chunk, end_chunks, end_item};
-use crate::texts::ends_string;
 use cborn_model::Visitor;
-use std::alloc::AllocError;
 
 /// Takes what follows an item: a comma, a colon, a bracket that ends, or white space.
 #[inline(always)]
@@ -23,7 +22,7 @@ pub(crate) fn take_after<V: Visitor>(
     here: &mut Here,
     writer: &mut Writer,
     visitor: &mut V,
-) -> Result<bool, AllocError>
+) -> Result<bool>
     requires inside { IsInside (V.holds visitor.old) source here.old writer.old }
     requires has { here.old.phase ≡ phases.Has }
     ensures { IfOk result (Goes (V.holds visitor.new) source.entry here.old here.new writer.new) }
@@ -47,7 +46,7 @@ fn take_separator<V: Visitor>(
     here: &mut Here,
     writer: &mut Writer,
     visitor: &mut V,
-) -> Result<bool, AllocError>
+) -> Result<bool>
     requires inside { IsInside (V.holds visitor.old) source here.old writer.old }
     requires has { here.old.phase ≡ phases.Has }
     requires separator { slice_index source.text.now here.old.at ≡ (if is_colon then 58 else 44) }
@@ -70,7 +69,7 @@ pub(crate) fn take_sized_ends<V: Visitor>(
     here: &mut Here,
     writer: &mut Writer,
     visitor: &mut V,
-) -> Result<bool, AllocError>
+) -> Result<bool>
     requires inside { IsInside (V.holds visitor.old) source here.old writer.old }
     requires ends { (here.old.phase ≡ phases.Has) ⊎ (here.old.phase ≡ phases.Wants) }
     ensures { IfOk result (Goes (V.holds visitor.new) source.entry here.old here.new writer.new) }
@@ -91,14 +90,8 @@ fn closes(is_map: bool, text: &[u8], here: &Here) -> bool
     ensures bracket { result ≡ true → slice_index text.now here.now.at ≡ (if is_map then 125 else 93) }
     ensures ends { result ≡ true → pure.ends_sized is_map here.now.phase here.now.level ≡ true }
 {
-    if here.at >= text.len() {
-        return false;
-    }
     let bracket = if is_map { b'}' } else { b']' };
-    if text[here.at] != bracket {
-        return false;
-    }
-    ends_sized(is_map, here.phase, here.level)
+    has_byte_at(bracket, text, here.at) && ends_sized(is_map, here.phase, here.level)
 }
 
 /// Takes the `)` of a tag.
@@ -108,7 +101,7 @@ fn take_tag_end<V: Visitor>(
     here: &mut Here,
     writer: &mut Writer,
     visitor: &mut V,
-) -> Result<bool, AllocError>
+) -> Result<bool>
     requires inside { IsInside (V.holds visitor.old) source here.old writer.old }
     requires has { here.old.phase ≡ phases.Has }
     requires paren { slice_index source.text.now here.old.at ≡ 41 }
@@ -129,7 +122,7 @@ fn take_embed_end<V: Visitor>(
     here: &mut Here,
     writer: &mut Writer,
     visitor: &mut V,
-) -> Result<bool, AllocError>
+) -> Result<bool>
     requires inside { IsInside (V.holds visitor.old) source here.old writer.old }
     requires has { here.old.phase ≡ phases.Has }
     requires greater { slice_index source.text.now here.old.at ≡ 62 }
@@ -152,7 +145,7 @@ pub(crate) fn take_after_pieces<V: Visitor>(
     here: &mut Here,
     writer: &mut Writer,
     visitor: &mut V,
-) -> Result<bool, AllocError>
+) -> Result<bool>
     requires inside { IsInside (V.holds visitor.old) source here.old writer.old }
     requires builds { here.old.phase ≡ phases.Builds }
     ensures { IfOk result (Goes (V.holds visitor.new) source.entry here.old here.new writer.new) }

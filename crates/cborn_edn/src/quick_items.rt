@@ -4,18 +4,18 @@
 ghost use Rattle.std.specs.Prelude.{◌≡◌, slice_index, IfOk};
 ghost use Rattle.cborn_edn.specs.devices.Common.{IsInside, IsWanting, Goes};
 
+use crate::Result;
 use crate::containers::{open_embedded, open_sized, open_tag};
-use crate::integers::{integer_at, negative_at};
-use crate::marks::{embeds_at, opening_at, opens_at, opens_chunks_at};
+use crate::frequent::{
+    embeds_at, integer_at, negative_at, opening_at, opens_at, opens_chunks_at, plain_text_at,
+    push_text, word_at,
+};
 use crate::numbers::{Numeral, put_number, put_word};
 use crate::quick_ends::take_sized_ends;
 use crate::states::{Here, Phase, Source, Writer};
 use crate::strings::{open_chunks, put_last_piece, put_text};
-use crate::texts::{plain_text_at, push_text};
-use crate::words::word_at;
 use cborn_lex::Mark;
 use cborn_model::Visitor;
-use std::alloc::AllocError;
 
 /// Takes an integer without a minus, or the number of a tag and its `(`.
 #[inline(always)]
@@ -24,7 +24,7 @@ pub(crate) fn take_integer<V: Visitor>(
     here: &mut Here,
     writer: &mut Writer,
     visitor: &mut V,
-) -> Result<bool, AllocError>
+) -> Result<bool>
     requires { IsWanting (V.holds visitor.old) source here.old writer.old }
     ensures { IfOk result (Goes (V.holds visitor.new) source.entry here.old here.new writer.new) }
 {
@@ -66,7 +66,7 @@ pub(crate) fn take_negative<V: Visitor>(
     here: &mut Here,
     writer: &mut Writer,
     visitor: &mut V,
-) -> Result<bool, AllocError>
+) -> Result<bool>
     requires wanting { IsWanting (V.holds visitor.old) source here.old writer.old }
     requires minus { slice_index source.text.now here.old.at ≡ 45 }
     ensures { IfOk result (Goes (V.holds visitor.new) source.entry here.old here.new writer.new) }
@@ -94,7 +94,7 @@ pub(crate) fn take_word<V: Visitor>(
     here: &mut Here,
     writer: &mut Writer,
     visitor: &mut V,
-) -> Result<bool, AllocError>
+) -> Result<bool>
     requires { IsWanting (V.holds visitor.old) source here.old writer.old }
     ensures { IfOk result (Goes (V.holds visitor.new) source.entry here.old here.new writer.new) }
 {
@@ -113,16 +113,16 @@ pub(crate) fn take_text<V: Visitor>(
     here: &mut Here,
     writer: &mut Writer,
     visitor: &mut V,
-) -> Result<bool, AllocError>
+) -> Result<bool>
     requires wanting { IsWanting (V.holds visitor.old) source here.old writer.old }
     requires quote { slice_index source.text.now here.old.at ≡ 34 }
     ensures { IfOk result (Goes (V.holds visitor.new) source.entry here.old here.new writer.new) }
 {
     let bytes = source.text.as_bytes();
-    if let Some(found) = plain_text_at(source.profile, bytes, here.at) {
-        let content = &bytes[here.at + 1..here.at + 1 + found.len];
+    if let Some((len, stop)) = plain_text_at(source.profile, bytes, here.at) {
+        let content = &bytes[here.at + 1..here.at + 1 + len];
         put_text(content, here, writer, visitor)?;
-        here.at = found.stop;
+        here.at = stop;
         return Ok(true);
     }
     let start = writer.pieces.len();
@@ -136,8 +136,7 @@ pub(crate) fn take_text<V: Visitor>(
     Ok(true)
 }
 
-/// Takes each `{`, or else each `[`, without an indicator, up to the first other character; and what ends
-/// them, if that follows directly.
+/// Takes each `{`, or else each `[`, without an indicator, and what ends them, if that follows at once.
 #[inline(always)]
 pub(crate) fn take_openings<V: Visitor>(
     is_map: bool,
@@ -145,7 +144,7 @@ pub(crate) fn take_openings<V: Visitor>(
     here: &mut Here,
     writer: &mut Writer,
     visitor: &mut V,
-) -> Result<bool, AllocError>
+) -> Result<bool>
     requires { IsWanting (V.holds visitor.old) source here.old writer.old }
     ensures { IfOk result (Goes (V.holds visitor.new) source.entry here.old here.new writer.new) }
 {
@@ -171,7 +170,7 @@ pub(crate) fn take_marked<V: Visitor>(
     here: &mut Here,
     writer: &mut Writer,
     visitor: &mut V,
-) -> Result<bool, AllocError>
+) -> Result<bool>
     requires { IsInside (V.holds visitor.old) source here.old writer.old }
     ensures { IfOk result (Goes (V.holds visitor.new) source.entry here.old here.new writer.new) }
 {
@@ -196,7 +195,7 @@ pub(crate) fn take_embedded<V: Visitor>(
     here: &mut Here,
     writer: &mut Writer,
     visitor: &mut V,
-) -> Result<bool, AllocError>
+) -> Result<bool>
     requires wanting { IsWanting (V.holds visitor.old) source here.old writer.old }
     requires less { slice_index source.text.now here.old.at ≡ 60 }
     ensures { IfOk result (Goes (V.holds visitor.new) source.entry here.old here.new writer.new) }
@@ -217,7 +216,7 @@ pub(crate) fn take_chunked<V: Visitor>(
     here: &mut Here,
     writer: &mut Writer,
     visitor: &mut V,
-) -> Result<bool, AllocError>
+) -> Result<bool>
     requires wanting { IsWanting (V.holds visitor.old) source here.old writer.old }
     requires paren { slice_index source.text.now here.old.at ≡ 40 }
     ensures { IfOk result (Goes (V.holds visitor.new) source.entry here.old here.new writer.new) }

@@ -8,14 +8,14 @@ ghost use Rattle.cborn_edn.specs.Says.{is_nil};
 ghost use Rattle.cborn_edn.specs.devices.Events.{Fits};
 ghost use Rattle.cborn_edn.specs.devices.Handed.{InnermostFollows};
 
+use crate::Result;
 use crate::events::{Event, hand_to};
 use cborn_model::{Visitor, Width};
 use cborn_wire::Speller;
-use std::alloc::{AllocError, Global};
+use std::alloc::Global;
 use std::marker::Model;
 
-/// The most that a speller whose `<<` has ended keeps to be used again: so many bytes, and so many
-/// containers open in one another.
+/// The most bytes, and containers in one another, that a speller keeps room for to be used again.
 const KEPT: usize = 256;
 
 /// The spellers of the open `<<`. In contracts they are a list with the innermost first.
@@ -61,7 +61,7 @@ impl Spellers {
     }
 
     /// Adds one, which is then the innermost and was handed nothing.
-    pub(crate) fn open(&mut self) -> Result<(), AllocError>
+    pub(crate) fn open(&mut self) -> Result
         ensures { OnOk result ((p : OneSpeller) × (self.new ≡ p ∷ self.old) × ⟦<Speller as Visitor>⟧.holds p (top []) no_part) }
     {
         make_room(self.alloc, self.depth, &mut self.spellers)?;
@@ -95,13 +95,7 @@ impl Spellers {
 
     /// Hands an integer to the innermost, if there is one.
     #[inline(always)]
-    pub(crate) fn integer(
-        &mut self,
-        place: usize,
-        negative: bool,
-        width: Width,
-        n: u64,
-    ) -> Result<(), AllocError>
+    pub(crate) fn integer(&mut self, place: usize, negative: bool, width: Width, n: u64) -> Result
         requires { WidthFits width n }
         ensures { OnOk result ((content : List ℕ) → InnermostFollows (Integer negative width n) place content self.old self.new) }
     {
@@ -113,12 +107,7 @@ impl Spellers {
 
     /// Hands an event to the innermost, if there is one.
     #[inline(never)]
-    pub(crate) fn hand(
-        &mut self,
-        event: Event,
-        place: usize,
-        content: &[u8],
-    ) -> Result<(), AllocError>
+    pub(crate) fn hand(&mut self, event: Event, place: usize, content: &[u8]) -> Result
         requires { Fits event content.now }
         ensures { OnOk result (InnermostFollows event place content.now self.old self.new) }
     {
@@ -130,7 +119,7 @@ impl Spellers {
 }
 
 /// Adds a speller to those of which `depth` are in use, if that is all of them.
-fn make_room(alloc: Global, depth: usize, spellers: &mut Vec<Speller>) -> Result<(), AllocError>
+fn make_room(alloc: Global, depth: usize, spellers: &mut Vec<Speller>) -> Result
     requires { depth ≤ length spellers.old.items }
     ensures kept { take depth spellers.new.items ≡ take depth spellers.old.items }
     ensures least { depth ≤ length spellers.new.items }

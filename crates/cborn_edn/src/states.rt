@@ -1,11 +1,12 @@
 //! What the reader keeps: where it is in the text, the pieces of the strings that are open, and an
 //! entry for each open bracket.
 
-use crate::MeaningError;
+use crate::Result;
+use crate::meaning_errors::FirstError;
 use crate::spellers::Spellers;
 use cborn_lex::{Mark, Profile};
 use cborn_model::{StringKind, push_doubling};
-use std::alloc::{AllocError, Global};
+use std::alloc::Global;
 use std::marker::Model;
 
 /// The kind of the innermost open bracket.
@@ -113,7 +114,7 @@ pub(crate) struct Around {
     pub(crate) start: usize,
     pub(crate) string: Option<Joint>,
     pub(crate) chunks: Option<Chunks>,
-    pub(crate) error: Option<MeaningError>,
+    pub(crate) error: FirstError,
 }
 
 /// What is open. `string` is there while pieces of a string are read, and `chunks` while a string in
@@ -133,7 +134,7 @@ pub(crate) struct Writer {
     /// The place of the last `simple(`.
     pub(crate) simple: usize,
     /// The first meaning error since the innermost `<<`.
-    pub(crate) error: Option<MeaningError>,
+    pub(crate) error: FirstError,
 }
 
 /// What is open, as brackets or what is kept around each `<<`. In contracts it is a list with the
@@ -180,7 +181,7 @@ impl<T: Drop> Opened<T> {
     /// Adds one, which is then the innermost.
     #[tactic(auto, using(crate::proofs::Reader::Opened::innermost))]
     #[inline(always)]
-    pub(crate) fn open(&mut self, one: T) -> Result<(), AllocError>
+    pub(crate) fn open(&mut self, one: T) -> Result
         ensures { OnOk result (self.new ≡ one ∷ self.old) }
     {
         push_doubling(&mut self.all, one)

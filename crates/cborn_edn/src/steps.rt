@@ -5,6 +5,7 @@ ghost use Rattle.std.specs.Prelude.{◌≡◌, ℕ, ◌<◌, ◌^◌, Bool, true
 ghost use Rattle.cborn_edn.specs.devices.Common.{Span as Place, Item, Pieces as Joined, Stack, Home, State, wants, has, builds, wants_number, has_number, Shows, Reads, is_piece, takes_no_piece, IsReady, Takes, Turned, Turns, EndsAt};
 ghost use Rattle.cborn_edn.specs.Common.{Mark as Indicator, class_of};
 
+use crate::Result;
 use crate::containers::{open_embedded, open_sized, open_tag};
 use crate::endings::{end_embedded, end_part, end_sized, end_tag};
 use crate::numbers::{Numeral, close_simple, open_simple, put_number, put_simple, put_word};
@@ -12,7 +13,6 @@ use crate::states::{Here, Phase, Writer};
 use crate::strings::{StringToken, add_piece, end_chunk, end_chunks, end_item, open_chunks};
 use cborn_lex::{BareToken, Kind};
 use cborn_model::{StringKind, Visitor};
-use std::alloc::AllocError;
 
 /// Takes a token that was read. Its number is `number`, and the content of a string was appended to
 /// the pieces. Answers whether the grammar has such a token here. If not, `here` and `writer` are not
@@ -23,7 +23,7 @@ pub(crate) fn take<V: Visitor>(
     here: &mut Here,
     writer: &mut Writer,
     visitor: &mut V,
-) -> Result<bool, AllocError>
+) -> Result<bool>
     requires { (s : State) × IsReady (V.holds visitor.old) token.kind number here.old writer.old s }
     ensures { IfOk result (λ ok. (s : State) → Takes (V.holds visitor.old) (V.holds visitor.new) token.kind number token.start here.old writer.old here.new writer.new ok s) }
 {
@@ -56,7 +56,7 @@ fn take_piece<V: Visitor>(
     here: &mut Here,
     writer: &mut Writer,
     visitor: &mut V,
-) -> Result<bool, AllocError>
+) -> Result<bool>
     requires piece { is_piece token.kind ≡ true }
     requires ready { (s : State) × IsReady (V.holds visitor.old) token.kind number here.old writer.old s }
     ensures { IfOk result (λ ok. (s : State) → Takes (V.holds visitor.old) (V.holds visitor.new) token.kind number token.start here.old writer.old here.new writer.new ok s) }
@@ -108,7 +108,7 @@ fn begin<V: Visitor>(
     here: &mut Here,
     writer: &mut Writer,
     visitor: &mut V,
-) -> Result<bool, AllocError>
+) -> Result<bool>
     requires bare { is_piece token.kind ≡ false }
     requires ready { (st : Stack) × IsReady (V.holds visitor.old) token.kind number here.old writer.old (wants st) }
     ensures { IfOk result (λ ok. (st : Stack) → Turns (V.holds visitor.old) (V.holds visitor.new) token.kind number token.start here.old writer.old here.new writer.new ok (wants st)) }
@@ -165,7 +165,7 @@ fn after<V: Visitor>(
     here: &mut Here,
     writer: &mut Writer,
     visitor: &mut V,
-) -> Result<bool, AllocError>
+) -> Result<bool>
     requires few { here.old.count < 2 ^ 63 }
     requires shows { (st : Stack) × (i : Item) × Reads (V.holds visitor.old) here.old writer.old writer.old.pieces.items (has st i) }
     ensures { IfOk result (λ ok. (st : Stack) (i : Item) → Turns (V.holds visitor.old) (V.holds visitor.new) token.kind number token.start here.old writer.old here.new writer.new ok (has st i)) }
@@ -181,8 +181,7 @@ fn after<V: Visitor>(
     }
 }
 
-/// Ends the pieces of a string, and takes the token after them; or ends a chunk, and takes the comma or
-/// the `)` after it.
+/// Ends the pieces of a string or of a chunk, and takes the token after them.
 #[tactic(auto, using(crate::proofs::Lemmas::item_home, crate::proofs::Lemmas::chunk_home))]
 fn after_pieces<V: Visitor>(
     token: BareToken,
@@ -190,7 +189,7 @@ fn after_pieces<V: Visitor>(
     here: &mut Here,
     writer: &mut Writer,
     visitor: &mut V,
-) -> Result<bool, AllocError>
+) -> Result<bool>
     requires few { here.old.count < 2 ^ 63 }
     requires shows { (h : Home) × (ps : Joined) × Reads (V.holds visitor.old) here.old writer.old writer.old.pieces.items (builds h ps) }
     ensures { IfOk result (λ ok. (h : Home) (ps : Joined) → EndsAt (V.holds visitor.old) (V.holds visitor.new) token.kind number token.start here.old writer.old here.new writer.new ok h ps) }
@@ -220,7 +219,7 @@ fn begin_number<V: Visitor>(
     here: &mut Here,
     writer: &mut Writer,
     visitor: &mut V,
-) -> Result<bool, AllocError>
+) -> Result<bool>
     ensures { IfOk result (λ ok. (st : Stack) (s : Place) → Turns (V.holds visitor.old) (V.holds visitor.new) token.kind number token.start here.old writer.old here.new writer.new ok (wants_number st s)) }
 {
     match token.kind {

@@ -5,48 +5,33 @@ ghost use Rattle.cborn_edn.specs.Says as says;
 ghost use Rattle.cborn_edn.specs.Common.{Here as Where, Has, WantsChunk, StringKind as Kind, OfText, IsUtf8, Absent};
 ghost use Rattle.cborn_edn.specs.devices.Common.{Span as Place, Pieces as Joined, Strings, StringsBefore, strings, string, chunked, piece, text, no_string, after_strings, Stack, Home, as_item, as_chunk, wants, has, builds, wants_chunk, at_home, with_piece, joint, kind_or, Notes, Shows, piece_of, string_event, chunk_event, Reads};
 
-use crate::events::Event;
-use crate::handing::hand;
-use crate::meaning_errors::{note_unless, note_width};
+use crate::events::{Event, hand};
+use crate::meaning_errors::{FirstError, note_unless, note_width};
 use crate::numbers::{is_absent, width_for};
 use crate::states::{Chunks, Here, Joint, Phase, Writer};
-use crate::{EdnReason, MeaningError};
+use crate::{EdnReason, Result};
 use cborn_lex::Mark;
 use cborn_model::{StringKind, Visitor, shortest};
-use std::alloc::AllocError;
 
 /// Whether both are byte strings, or both text strings.
 #[inline(always)]
 fn are_same(one: StringKind, other: StringKind) -> bool
     ensures { result ≡ says.same_kind one other }
 {
-    match (one, other) {
-        (StringKind::OfBytes, StringKind::OfBytes) | (StringKind::OfText, StringKind::OfText) =>
-            true,
-        _ => false,
-    }
+    one == other
 }
 
-/// Whether a piece of the kind `next` may follow in a string of the kind `kind`. Bytes may be a
-/// part of a text string, but text no part of a byte string.
+/// Whether a piece of the kind `next` may be a part of a string: any but text of a byte string.
 #[inline(always)]
 fn may_join(kind: StringKind, next: StringKind) -> bool
     ensures { result ≡ says.may_join kind next }
 {
-    match (kind, next) {
-        (StringKind::OfBytes, StringKind::OfText) => false,
-        _ => true,
-    }
+    kind == StringKind::OfText || next == StringKind::OfBytes
 }
 
 /// Notes what is wrong with a piece of the kind `kind` at `place` after those of `string`.
 #[tactic(auto, using(crate::proofs::Reader::Joints::piece_noted))]
-pub(crate) fn note_piece(
-    string: Joint,
-    kind: StringKind,
-    place: usize,
-    error: &mut Option<MeaningError>,
-)
+pub(crate) fn note_piece(string: Joint, kind: StringKind, place: usize, error: &mut FirstError)
     ensures { (s t : says.Str) → string ≡ joint s → kind ≡ t.kind → place ≡ t.place → Notes error.old error.new (says.piece_errors s t) }
 {
     let reason = EdnReason::IndicatorNotAllowed;
@@ -58,7 +43,7 @@ pub(crate) fn note_piece(
 /// Notes what is wrong with a whole string, whose bytes are `content`. `may_end` says whether its
 /// indicator may ask for an indefinite length without a chunk.
 #[inline(always)]
-fn note_string(may_end: bool, string: Joint, content: &[u8], error: &mut Option<MeaningError>)
+fn note_string(may_end: bool, string: Joint, content: &[u8], error: &mut FirstError)
     ensures { (s : says.Str) → string ≡ joint s → (s.known ≡ true → content.now ≡ s.bytes) → Notes error.old error.new (says.string_errors may_end s) }
 {
     note_mark(may_end, string, content.len() as u64, error);
@@ -68,10 +53,9 @@ fn note_string(may_end: bool, string: Joint, content: &[u8], error: &mut Option<
     }
 }
 
-/// Notes what is wrong with the indicator of a whole string of `size` bytes. `may_end` says whether
-/// it may ask for an indefinite length.
+/// Notes what is wrong with the indicator of a whole string of `size` bytes, as `note_string` does.
 #[tactic(auto, using(crate::proofs::Reader::Joints::mark_endless, crate::proofs::Reader::Joints::mark_wide, crate::proofs::Reader::Joints::mark_unknown))]
-fn note_mark(may_end: bool, string: Joint, size: u64, error: &mut Option<MeaningError>)
+fn note_mark(may_end: bool, string: Joint, size: u64, error: &mut FirstError)
     ensures { (s : says.Str) → string ≡ joint s → (s.known ≡ true → size ≡ length s.bytes) → Notes error.old error.new (says.mark_errors may_end s) }
 {
     if is_endless(string.mark) {
@@ -90,13 +74,15 @@ pub(crate) fn is_endless(mark: Mark) -> bool
     matches!(mark, Mark::Endless)
 }
 
-/// Whether the content of a string is UTF-8, if it is a text string.
-fn is_good(kind: StringKind, content: &[u8]) -> bool
+/// Whether the content of a string is UTF-8, if it is a text string. Most are short and ASCII, which is
+/// quicker to see. Escapes leave that alone.
+#[inline]
+pub(crate) fn is_good(kind: StringKind, content: &[u8]) -> bool
     ensures { result ≡ says.is_good kind content.now }
 {
     match kind {
         StringKind::OfBytes => true,
-        StringKind::OfText => simdutf8::is_utf8(content),
+        StringKind::OfText => content.is_ascii() || simdutf8::is_utf8(content),
     }
 }
 
@@ -108,8 +94,7 @@ fn is_lone(quoted: bool, size: usize) -> bool
     quoted && size == 0
 }
 
-/// A token that is a piece of a string: its kind, whether it is in quotes without a prefix, its
-/// place, and its indicator.
+/// A token that is a piece of a string. It is `quoted` if it is in quotes without a prefix.
 #[derive(Clone, Copy)]
 pub(crate) struct StringToken {
     pub(crate) kind: StringKind,
@@ -148,11 +133,7 @@ pub(crate) fn add_piece(token: StringToken, here: &mut Here, writer: &mut Writer
 
 /// Ends a string, which is then an item.
 #[inline(always)]
-pub(crate) fn end_item<V: Visitor>(
-    here: &mut Here,
-    writer: &mut Writer,
-    visitor: &mut V,
-) -> Result<(), AllocError>
+pub(crate) fn end_item<V: Visitor>(here: &mut Here, writer: &mut Writer, visitor: &mut V) -> Result
     requires { (st : Stack) × (ps : Joined) × Reads (V.holds visitor.old) here.old writer.old writer.old.pieces.items (builds (as_item st) ps) }
     ensures { OnOk result ((st : Stack) (ps : Joined) → Reads (V.holds visitor.old) here.old writer.old writer.old.pieces.items (builds (as_item st) ps) → Reads (V.holds visitor.new) here.new writer.new writer.new.pieces.items (has st (string ps))) }
 {
@@ -163,7 +144,7 @@ pub(crate) fn end_item<V: Visitor>(
 
 /// Hands over the string that is open, which has ended.
 #[inline(never)]
-fn put_string<V: Visitor>(writer: &mut Writer, visitor: &mut V) -> Result<(), AllocError>
+fn put_string<V: Visitor>(writer: &mut Writer, visitor: &mut V) -> Result
     requires { (here : Where) × (st : Stack) × (ps : Joined) × Reads (V.holds visitor.old) here writer.old writer.old.pieces.items (builds (as_item st) ps) }
     ensures { OnOk result ((here : Where) (st : Stack) (ps : Joined) → Reads (V.holds visitor.old) here writer.old writer.old.pieces.items (builds (as_item st) ps) → Reads (V.holds visitor.new) (record here { phase = Has }) writer.new writer.new.pieces.items (has st (string ps))) }
 {
@@ -212,11 +193,7 @@ pub(crate) fn open_chunks(place: usize, here: &mut Here, writer: &mut Writer)
 
 /// Ends a string, which is then a chunk.
 #[inline(always)]
-pub(crate) fn end_chunk<V: Visitor>(
-    here: &mut Here,
-    writer: &mut Writer,
-    visitor: &mut V,
-) -> Result<(), AllocError>
+pub(crate) fn end_chunk<V: Visitor>(here: &mut Here, writer: &mut Writer, visitor: &mut V) -> Result
     requires { (st : Stack) × (s : Place) × (b : StringsBefore) × (ps : Joined) × Reads (V.holds visitor.old) here.old writer.old writer.old.pieces.items (builds (as_chunk st s b) ps) }
     ensures { OnOk result ((st : Stack) (s a : Place) (b : StringsBefore) (ps : Joined) → Reads (V.holds visitor.old) here.old writer.old writer.old.pieces.items (builds (as_chunk st s b) ps) → Reads (V.holds visitor.new) here.new writer.new writer.new.pieces.items (wants_chunk st s (after_strings (strings b ps) a))) }
 {
@@ -227,7 +204,7 @@ pub(crate) fn end_chunk<V: Visitor>(
 
 /// Hands over the string that is open, which has ended and is a chunk.
 #[inline(never)]
-fn put_chunk<V: Visitor>(writer: &mut Writer, visitor: &mut V) -> Result<(), AllocError>
+fn put_chunk<V: Visitor>(writer: &mut Writer, visitor: &mut V) -> Result
     requires { (here : Where) × (st : Stack) × (s : Place) × (b : StringsBefore) × (ps : Joined) × Reads (V.holds visitor.old) here writer.old writer.old.pieces.items (builds (as_chunk st s b) ps) }
     ensures { OnOk result ((here : Where) (st : Stack) (s a : Place) (b : StringsBefore) (ps : Joined) → Reads (V.holds visitor.old) here writer.old writer.old.pieces.items (builds (as_chunk st s b) ps) → Reads (V.holds visitor.new) (record here { phase = WantsChunk }) writer.new writer.new.pieces.items (wants_chunk st s (after_strings (strings b ps) a))) }
 {
@@ -251,8 +228,7 @@ fn put_chunk<V: Visitor>(writer: &mut Writer, visitor: &mut V) -> Result<(), All
     Ok(())
 }
 
-/// What is handed over of a chunk with a content of `len` bytes: the head of the string too, if it is
-/// the first.
+/// What is handed over of a chunk of `len` bytes: the head of the string too, if it is the first.
 #[inline(always)]
 fn chunk_event(chunks: Chunks, joint: Joint, len: usize) -> Event
     ensures { result ≡ chunk_event chunks joint len }
@@ -269,14 +245,11 @@ fn chunk_event(chunks: Chunks, joint: Joint, len: usize) -> Event
 fn kind_or(first: Option<StringKind>, next: StringKind) -> StringKind
     ensures { result ≡ kind_or first next }
 {
-    match first {
-        Some(kind) => kind,
-        None => next,
-    }
+    first.unwrap_or(next)
 }
 
 /// Notes what is wrong with a chunk. `kind` is that of the first chunk.
-fn note_chunk(kind: StringKind, string: Joint, content: &[u8], error: &mut Option<MeaningError>)
+fn note_chunk(kind: StringKind, string: Joint, content: &[u8], error: &mut FirstError)
     ensures { (s : says.Str) → string ≡ joint s → (s.known ≡ true → content.now ≡ s.bytes) → Notes error.old error.new (says.chunk_errors kind s) }
 {
     let reason = EdnReason::MixedChunks;
@@ -291,7 +264,7 @@ pub(crate) fn end_chunks<V: Visitor>(
     here: &mut Here,
     writer: &mut Writer,
     visitor: &mut V,
-) -> Result<(), AllocError>
+) -> Result
     ensures { OnOk result ((st : Stack) (s a e : Place) (ss : Strings) → Reads (V.holds visitor.old) here.old writer.old writer.old.pieces.items (wants_chunk st s (after_strings ss a)) → Reads (V.holds visitor.new) here.new writer.new writer.new.pieces.items (has st (chunked s ss e))) }
 {
     writer.chunks = None;
@@ -308,7 +281,7 @@ pub(crate) fn put_text<V: Visitor>(
     here: &mut Here,
     writer: &mut Writer,
     visitor: &mut V,
-) -> Result<(), AllocError>
+) -> Result
     ensures read { OnOk result ((st : Stack) (a : Place) → here.old.at ≡ a.start → IsUtf8 content.now → Reads (V.holds visitor.old) here.old writer.old writer.old.pieces.items (wants st) → Reads (V.holds visitor.new) here.new writer.new writer.new.pieces.items (has st (string (piece (text a content.now Absent))))) }
     ensures at { OnOk result (here.new.at ≡ here.old.at) }
 {
@@ -318,8 +291,7 @@ pub(crate) fn put_text<V: Visitor>(
     hand(event, here.at, content, writer.error, spellers, visitor)
 }
 
-/// Takes a text string as `put_text` does, whose content is the pieces from the offset `start` on, and
-/// forgets them.
+/// Takes a text string as `put_text` does: the pieces from the offset `start` on, which it forgets.
 #[tactic(auto, using(crate::proofs::Lemmas::hands_text, crate::proofs::Lemmas::leaf_shown, crate::proofs::Common::take_rest, crate::proofs::Lemmas::text_item, crate::proofs::Lemmas::text_noted))]
 #[inline(always)]
 pub(crate) fn put_last_piece<V: Visitor>(
@@ -327,7 +299,7 @@ pub(crate) fn put_last_piece<V: Visitor>(
     here: &mut Here,
     writer: &mut Writer,
     visitor: &mut V,
-) -> Result<(), AllocError>
+) -> Result
     requires { start ≤ length writer.old.pieces.items }
     ensures read { OnOk result ((st : Stack) (a : Place) → here.old.at ≡ a.start → IsUtf8 (drop start writer.old.pieces.items) → Reads (V.holds visitor.old) here.old writer.old (take start writer.old.pieces.items) (wants st) → Reads (V.holds visitor.new) here.new writer.new writer.new.pieces.items (has st (string (piece (text a (drop start writer.old.pieces.items) Absent))))) }
     ensures at { OnOk result (here.new.at ≡ here.old.at) }

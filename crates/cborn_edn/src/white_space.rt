@@ -46,8 +46,7 @@ fn is_white(c: u8) -> bool
     c == b' ' || c == b'\t' || c == b'\n' || c == b'\r'
 }
 
-/// An offset after the character of white space at the offset `at`, and after up to sixteen spaces
-/// that follow it. If fewer than sixteen bytes follow, no spaces are passed over.
+/// An offset after the character of white space at the offset `at`, and after spaces that follow it.
 #[inline(always)]
 fn white_end(text: &[u8], at: usize) -> usize
     requires inside { at < length text.now }
@@ -130,8 +129,7 @@ fn slashed_end(profile: Profile, text: &[u8], at: usize) -> Option<usize>
     long_end(profile, text, at)
 }
 
-/// The offset after the comment between slashes that begins at the offset `at`, however long it is.
-/// `None` if no slash closes it.
+/// The same as `slashed_end`, out of line, however long the comment is.
 #[tactic(auto, using(crate::proofs::Reader::CommonTokens::comment_here, crate::proofs::Common::take_rest))]
 #[inline(never)]
 fn long_end(profile: Profile, text: &[u8], at: usize) -> Option<usize>

@@ -6,18 +6,13 @@ ghost use Rattle.cborn_edn.specs.Cited.{mark_for};
 ghost use Rattle.cborn_edn.specs.Shown as pure;
 ghost use Rattle.cborn_edn.specs.devices.Notating.{is_escaped, quote, content, string_end, size_text};
 
+use crate::Result;
 use cborn_model::{Size, StringKind, Width, shortest};
 use itoa::Buffer;
-use std::alloc::AllocError;
 
 /// Appends an integer, and its indicator if its head isn't the shortest.
 #[inline(always)]
-pub(crate) fn push_integer(
-    negative: bool,
-    width: Width,
-    n: u64,
-    out: &mut Vec<u8>,
-) -> Result<(), AllocError>
+pub(crate) fn push_integer(negative: bool, width: Width, n: u64, out: &mut Vec<u8>) -> Result
     ensures { OnOk result ((place : ℕ) → out.new.items ≡ out.old.items ++ pure.shown (integer_tree place negative width n)) }
 {
     if negative {
@@ -31,7 +26,7 @@ pub(crate) fn push_integer(
 
 /// Appends a number in decimal.
 #[inline]
-fn push_decimal(n: u64, out: &mut Vec<u8>) -> Result<(), AllocError>
+fn push_decimal(n: u64, out: &mut Vec<u8>) -> Result
     ensures { OnOk result (out.new.items ≡ out.old.items ++ decimal n) }
 {
     let mut buffer = Buffer::new();
@@ -40,7 +35,7 @@ fn push_decimal(n: u64, out: &mut Vec<u8>) -> Result<(), AllocError>
 
 /// Appends the number after `n` in decimal.
 #[inline]
-fn push_successor(n: u64, out: &mut Vec<u8>) -> Result<(), AllocError>
+fn push_successor(n: u64, out: &mut Vec<u8>) -> Result
     ensures { OnOk result (out.new.items ≡ out.old.items ++ decimal (suc n)) }
 {
     if n < u64::MAX {
@@ -50,10 +45,9 @@ fn push_successor(n: u64, out: &mut Vec<u8>) -> Result<(), AllocError>
     out.extend_from_slice(buffer.format(n as u128 + 1).as_bytes())
 }
 
-/// Appends the indicator of a head with the argument `n` (RFC 8949 section 8.1), but nothing if
-/// `width` is the shortest.
+/// Appends the indicator of a head with the argument `n`, if it isn't the shortest.
 #[inline(always)]
-fn push_indicator(width: Width, n: u64, out: &mut Vec<u8>) -> Result<(), AllocError>
+fn push_indicator(width: Width, n: u64, out: &mut Vec<u8>) -> Result
     ensures { OnOk result (out.new.items ≡ out.old.items ++ pure.indicator (mark_for width n)) }
 {
     if width == shortest(n) {
@@ -69,7 +63,7 @@ fn push_indicator(width: Width, n: u64, out: &mut Vec<u8>) -> Result<(), AllocEr
 }
 
 /// Appends a tag's number, its indicator if its head isn't the shortest, and a parenthesis.
-pub(crate) fn push_tag(width: Width, n: u64, out: &mut Vec<u8>) -> Result<(), AllocError>
+pub(crate) fn push_tag(width: Width, n: u64, out: &mut Vec<u8>) -> Result
     ensures { OnOk result (out.new.items ≡ out.old.items ++ (decimal n ++ (pure.indicator (mark_for width n) ++ codes "("))) }
 {
     push_decimal(n, out)?;
@@ -77,14 +71,8 @@ pub(crate) fn push_tag(width: Width, n: u64, out: &mut Vec<u8>) -> Result<(), Al
     out.extend_from_slice(b"(")
 }
 
-/// Appends the opening bracket of an array or a map of `count` items or pairs, its indicator, and a
-/// space after it, if it has one.
-pub(crate) fn push_bracket(
-    bracket: u8,
-    size: Size,
-    count: Option<u64>,
-    out: &mut Vec<u8>,
-) -> Result<(), AllocError>
+/// Appends the opening bracket of an array or a map, and then what `push_size` does.
+pub(crate) fn push_bracket(bracket: u8, size: Size, count: Option<u64>, out: &mut Vec<u8>) -> Result
     ensures { OnOk result (out.new.items ≡ out.old.items ++ (bracket ∷ size_text size count)) }
 {
     out.extend_from_slice(&[bracket])?;
@@ -93,7 +81,7 @@ pub(crate) fn push_bracket(
 
 /// Appends the indicator of an array or a map of `count` items or pairs, and a space after it, if it
 /// has one. If it has a width and no count, its indicator isn't known yet.
-pub(crate) fn push_size(size: Size, count: Option<u64>, out: &mut Vec<u8>) -> Result<(), AllocError>
+pub(crate) fn push_size(size: Size, count: Option<u64>, out: &mut Vec<u8>) -> Result
     ensures { OnOk result (out.new.items ≡ out.old.items ++ size_text size count) }
 {
     match (size, count) {
@@ -109,9 +97,8 @@ pub(crate) fn push_size(size: Size, count: Option<u64>, out: &mut Vec<u8>) -> Re
     }
 }
 
-/// Appends a simple value: `false`, `true`, `null`, `undefined`, or its number in `simple(..)` (RFC
-/// 8949 sections 3.3 and 8).
-pub(crate) fn push_simple(n: u8, out: &mut Vec<u8>) -> Result<(), AllocError>
+/// Appends a simple value by its name, or by its number in `simple(..)` (RFC 8949 section 8).
+pub(crate) fn push_simple(n: u8, out: &mut Vec<u8>) -> Result
     ensures { OnOk result (out.new.items ≡ out.old.items ++ pure.shown_simple n) }
 {
     match n {
@@ -129,7 +116,7 @@ pub(crate) fn push_simple(n: u8, out: &mut Vec<u8>) -> Result<(), AllocError>
 
 /// Appends what precedes the content of a string of this kind.
 #[inline(always)]
-pub(crate) fn push_quote(kind: StringKind, out: &mut Vec<u8>) -> Result<(), AllocError>
+pub(crate) fn push_quote(kind: StringKind, out: &mut Vec<u8>) -> Result
     ensures { OnOk result (out.new.items ≡ out.old.items ++ quote kind) }
 {
     match kind {
@@ -139,11 +126,7 @@ pub(crate) fn push_quote(kind: StringKind, out: &mut Vec<u8>) -> Result<(), Allo
 }
 
 /// Appends bytes of a string of this kind: in hexadecimal, or with escapes.
-pub(crate) fn push_content(
-    kind: StringKind,
-    bytes: &[u8],
-    out: &mut Vec<u8>,
-) -> Result<(), AllocError>
+pub(crate) fn push_content(kind: StringKind, bytes: &[u8], out: &mut Vec<u8>) -> Result
     ensures { OnOk result (out.new.items ≡ out.old.items ++ content kind bytes.now) }
 {
     match kind {
@@ -152,15 +135,9 @@ pub(crate) fn push_content(
     }
 }
 
-/// Appends what follows the content of a string of `len` bytes: the quote, and the indicator if its
-/// head isn't the shortest.
+/// Appends what follows the content of a string of `len` bytes: the quote, and the indicator.
 #[inline(always)]
-pub(crate) fn push_string_end(
-    kind: StringKind,
-    width: Width,
-    len: u64,
-    out: &mut Vec<u8>,
-) -> Result<(), AllocError>
+pub(crate) fn push_string_end(kind: StringKind, width: Width, len: u64, out: &mut Vec<u8>) -> Result
     ensures { OnOk result (out.new.items ≡ out.old.items ++ string_end kind width len) }
 {
     match kind {
@@ -174,7 +151,7 @@ pub(crate) fn push_string_end(
 const HEX_BYTES: usize = 32;
 
 /// Appends bytes in hexadecimal.
-fn push_hex(bytes: &[u8], out: &mut Vec<u8>) -> Result<(), AllocError>
+fn push_hex(bytes: &[u8], out: &mut Vec<u8>) -> Result
     ensures { OnOk result (out.new.items ≡ out.old.items ++ encode_lower bytes.now) }
 {
     let mut rest = bytes;
@@ -186,7 +163,7 @@ fn push_hex(bytes: &[u8], out: &mut Vec<u8>) -> Result<(), AllocError>
 }
 
 /// Appends at most `HEX_BYTES` bytes in hexadecimal.
-fn push_some_hex(bytes: &[u8], out: &mut Vec<u8>) -> Result<(), AllocError>
+fn push_some_hex(bytes: &[u8], out: &mut Vec<u8>) -> Result
     requires { length bytes.now ≤ 32 }
     ensures { OnOk result (out.new.items ≡ out.old.items ++ encode_lower bytes.now) }
 {
@@ -199,7 +176,7 @@ fn push_some_hex(bytes: &[u8], out: &mut Vec<u8>) -> Result<(), AllocError>
 }
 
 /// Appends `text` with escapes for quotes, backslashes and control characters (RFC 8259 section 7).
-fn push_escaped(text: &[u8], out: &mut Vec<u8>) -> Result<(), AllocError>
+fn push_escaped(text: &[u8], out: &mut Vec<u8>) -> Result
     ensures { OnOk result (out.new.items ≡ out.old.items ++ flat_map pure.escaped text.now) }
 {
     let mut from = 0;
@@ -221,7 +198,7 @@ fn is_escaped(b: u8) -> bool
 }
 
 /// Appends the escape of the byte `b`.
-fn push_escape(b: u8, out: &mut Vec<u8>) -> Result<(), AllocError>
+fn push_escape(b: u8, out: &mut Vec<u8>) -> Result
     requires { is_escaped b ≡ true }
     ensures { OnOk result (out.new.items ≡ out.old.items ++ pure.escaped b) }
 {

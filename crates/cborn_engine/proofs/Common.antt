@@ -111,4 +111,3 @@ pub use Rattle.cborn_engine.specs.devices.Counts.{EncodedWhole, ReadsCount, byte
 pub use Rattle.cborn_engine.specs.devices.Encoding.{AreJudged, EncodeAnswers, IsEncoded, IsFixedText, IsWrittenAs, kind_of}
 pub use Rattle.cborn_engine.specs.devices.Judging.{HasJudged, InputAnswers, IsJudging, ReadsInput, ReadsWhole}
 pub use Rattle.cborn_engine.specs.devices.Malformed.{IsRefusedHeld, IsUnshownHeld, IsWireFault}
-pub use Rattle.cborn_engine.specs.devices.Walking.{AreOwn, ContentRead, Finds, Follows, HasNoLeastHead, IsLast, IsOwn, ItemsWalked, LeafFollows, LeastHeadRead, MagnitudeRead, PairsOwn, PairsWalked, RisingAfter, Walked, walked_depth}

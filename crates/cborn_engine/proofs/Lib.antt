@@ -5,4 +5,3 @@ pub mod Streams
 pub mod Answers
 pub mod Comparison
 pub mod CountAnswers
-pub mod Walks

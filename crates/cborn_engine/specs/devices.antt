@@ -5,4 +5,3 @@ pub mod Counts
 pub mod Tops
 pub mod CuttingCode
 pub mod Judging
-pub mod Walking

@@ -20,9 +20,6 @@ use std::alloc::Global;
 use std::borrow::CowSlice;
 
 /// The canonical form of what an input holds, as `normalise_slice` gives it.
-///
-/// # Errors
-/// Those of `normalise_slice`.
 pub(crate) fn form_of<'a, O: KeyOrder>(
     alloc: Global,
     limit: Limit,
@@ -48,9 +45,6 @@ pub(crate) fn form_of<'a, O: KeyOrder>(
 }
 
 /// The first defect of bytes, as `check_slice` gives it.
-///
-/// # Errors
-/// Those of `check_slice`.
 pub(crate) fn defect_of<O: KeyOrder>(
     alloc: Global,
     limit: Limit,
@@ -66,11 +60,7 @@ pub(crate) fn defect_of<O: KeyOrder>(
     }
 }
 
-/// The deterministic encodings of what an input holds, as `encode_counted` gives them. Bytes that are
-/// these already are moved.
-///
-/// # Errors
-/// Those of `encode_counted`.
+/// What an input holds, encoded, as `encode_counted` gives it. Bytes that are that already are moved.
 pub(crate) fn encodings_of<O: KeyOrder>(
     alloc: Global,
     limit: Limit,

@@ -38,12 +38,8 @@ pub fn check<O: KeyOrder, R: Source>(
     of_any(check_stream::<O, R>(alloc, limit, Count::Any, reader))
 }
 
-/// The first defect of these bytes, or the fault of their content. No fault is the reader's. A defect
-/// is reported only where the bytes hold items; where they hold none, a reason is found. Where memory
-/// was refused, the fault of the bytes is answered if they have one.
-///
-/// # Errors
-/// The fault of their content, or `OutOfMemory`.
+/// The first defect of these bytes, if they hold items; else the fault of their content. Where memory was
+/// refused, that fault is answered if they have one.
 pub fn check_input<O: KeyOrder>(
     alloc: Global,
     limit: Limit,

@@ -78,10 +78,7 @@ impl CountFault {
     }
 }
 
-/// What is answered for an input that may hold any number of items.
-///
-/// # Errors
-/// The fault of the answer, which is none of the count's.
+/// The answer for an input that may hold any number of items, whose fault is none of the count's.
 pub fn of_any<A>(answer: Result<A, CountFault>) -> Result<A, EngineFault>
     requires { (any : Result A EngineFault) × (answer ≡ counted_of any) }
     ensures { answer ≡ counted_of result }

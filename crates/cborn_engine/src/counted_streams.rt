@@ -84,11 +84,8 @@ pub fn show_stream<R: Source, W: Sink>(
     send(answer, writer)
 }
 
-/// Writes an answer, or hands on why there is none; then the writer is as it was.
-///
-/// # Errors
-/// The fault that is handed on, or `WriteFault` where the writer failed; then a front of the answer went
-/// out.
+/// Writes an answer, or hands on why there is none; then the writer is as it was. Where the writer fails,
+/// a front of the answer went out.
 fn send<W: Sink>(
     answer: Result<CowSlice<'_, u8, Global>, CountFault>,
     writer: &mut W,
@@ -157,11 +154,7 @@ pub fn compare_streams<O: KeyOrder, R: Source, Q: Source>(
     Ok(difference::<O>(alloc, limit, &ours, &theirs)?)
 }
 
-/// The deterministic encodings of what the whole input holds, where that are as many items as it has
-/// to hold. Bytes that are these already are moved.
-///
-/// # Errors
-/// Those of `normalise_stream` but `WriteFault`.
+/// What the whole input holds, encoded, where that are as many items as it has to hold.
 #[tactic(auto, using(crate::proofs::CountAnswers::Streamed::quiet_counted))]
 fn read_counted<O: KeyOrder, R: Source>(
     alloc: Global,

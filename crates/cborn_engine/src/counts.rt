@@ -24,11 +24,8 @@ pub enum Count {
     One,
 }
 
-/// Refuses an input that spells nodes, but not as many as it has to. One that may spell any number is
-/// not looked at.
-///
-/// # Errors
-/// `NoItem` and `MoreItems`, and want of memory.
+/// Refuses an input that spells nodes, but not as many as it has to. One that may spell any number isn't
+/// looked at.
 #[inline(always)]
 pub fn expect(
     alloc: Global,

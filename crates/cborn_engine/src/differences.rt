@@ -8,11 +8,8 @@ use cborn_model::{KeyOrder, Limit};
 use cborn_wire::first_end;
 use std::alloc::{AllocError, Global};
 
-/// The difference of what two deterministic encodings hold: none, or the index of the first item at
-/// which they differ.
-///
-/// # Errors
-/// `AllocError` where memory for the open levels of an item is refused.
+/// The index of the first item at which two deterministic encodings differ, if they do. Memory is taken
+/// for the open levels of an item.
 pub fn difference<O: KeyOrder>(
     alloc: Global,
     limit: Limit,

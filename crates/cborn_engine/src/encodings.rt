@@ -3,7 +3,6 @@
 ghost use Rattle.std.specs.Prelude.{◌≡◌, ◌≤◌};
 ghost use Rattle.cborn_engine.specs.Common.{Kind, length, IfOk, IfErr, IsTrue};
 ghost use Rattle.cborn_engine.specs.devices.Encoding.{IsEncoded, kind_of};
-ghost use Rattle.cborn_engine.specs.devices.Walking.{walked_depth};
 ghost use Rattle.cborn_engine.specs.Reading.{most_bytes};
 ghost use Rattle.cborn_engine.specs.devices.Malformed.{IsRefusedHeld};
 
@@ -17,19 +16,15 @@ use cborn_lex::Profile;
 use cborn_model::{KeyOrder, Limit};
 use std::alloc::Global;
 
-/// Whether the whole input is the deterministic encodings of what it holds, one after another. False of
-/// a text, and of items deeper than 256 levels.
+/// Whether the whole input is the deterministic encodings of what it holds, one after another, as far as
+/// `is_deterministic` sees it. False of a text.
 pub fn is_own_encoding<O: KeyOrder>(limit: Limit, kind: Kind, input: &[u8]) -> bool
-    ensures own { IsTrue result → (kind ≡ Kind.Wire) × IsEncoded O.order kind limit input.now input.now }
-    ensures all { kind ≡ Kind.Wire → IsEncoded O.order kind (walked_depth limit) input.now input.now → IsTrue result }
+    ensures { IsTrue result → (kind ≡ Kind.Wire) × IsEncoded O.order kind limit input.now input.now }
 {
     kind == Kind::Wire && is_deterministic::<O>(limit, input)
 }
 
-/// The deterministic encodings of what an input holds, one after another.
-///
-/// # Errors
-/// The fault of its content, or `OutOfMemory`.
+/// The deterministic encodings of what an input holds, one after another, or the fault of its content.
 pub fn encode_input<O: KeyOrder>(
     alloc: Global,
     limit: Limit,

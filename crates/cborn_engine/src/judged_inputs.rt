@@ -28,11 +28,7 @@ pub(crate) enum Input {
 }
 
 /// Reads an input, of at most 2^30 bytes. A text is kept whole, and so are bytes that have to hold a
-/// given number of items.
-///
-/// # Errors
-/// `ReadFault`, `TooLong` and `OutOfMemory`, as `load_within` gives them, and the fault of the content
-/// of bytes, if it was found.
+/// given number of items. A fault of the content of bytes is answered where it was found.
 pub(crate) fn read_input<O: KeyOrder, R: Source>(
     alloc: Global,
     limit: Limit,
@@ -86,9 +82,6 @@ fn read_judged<O: KeyOrder, R: Source>(
 }
 
 /// Reads on to the end of an input of which the first `count` bytes of `piece` were read.
-///
-/// # Errors
-/// `ReadFault`, `TooLong` and `OutOfMemory`, as `read_on` gives them.
 fn read_whole<R: Source>(piece: Vec<u8>, count: usize, reader: &mut R) -> Result<Input, EngineFault>
     requires { count ≤ most_bytes }
     ensures whole { ReadsWhole (take count piece.items) (R.remaining reader.old) (R.remaining reader.new) result }

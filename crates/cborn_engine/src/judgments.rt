@@ -13,13 +13,8 @@ use cborn_judge::{EncodedItems, Encoder};
 use cborn_model::{KeyOrder, Limit, Visitor};
 use std::alloc::Global;
 
-/// The deterministic encodings of the items that bytes hold, the keys of maps in the order `O`, and
-/// the first defect of the bytes, if they aren't these encodings (RFC 8949 section 4.2). Where memory
-/// was refused, the fault of the bytes is answered if they have one.
-///
-/// # Errors
-/// The fault of bytes that aren't well-formed, the first flaw of the first item that isn't valid, or
-/// `OutOfMemory`.
+/// The deterministic encodings of the items that bytes hold, and the first defect of the bytes (RFC 8949
+/// section 4.2), or the fault of their content; that also where memory was refused, if they have one.
 pub fn judge_bytes<O: KeyOrder>(
     alloc: Global,
     limit: Limit,

@@ -19,8 +19,7 @@
 //! are kept whole only where they may be their own encodings; `answered_inputs` says what is answered
 //! for either. `encodings` encodes a whole input, `showings` writes it in another form (`cborn_edn`),
 //! `checks` looks whether it is deterministic, and `refusals` says why an input is refused. `fronts`
-//! walks over bytes that are their own encodings, in place; `walked_leaves` reads the items without
-//! children for it.
+//! sees whether bytes are their own encodings.
 //! `conversions`, `comparisons` and `checks` have the calls over readers of any number of items,
 //! `counted_streams` those with a count, and `slices` those over inputs that are held whole;
 //! `differences` finds where two encodings differ.
@@ -60,7 +59,6 @@ mod slices;
 mod sources;
 mod stream_faults;
 mod texts;
-mod walked_leaves;
 mod whole_inputs;
 
 pub use checks::check;

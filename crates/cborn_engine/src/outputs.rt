@@ -7,11 +7,8 @@ ghost use Rattle.cborn_engine.specs.Writing.{Sends};
 use crate::faults::EngineFault;
 use crate::sinks::Sink;
 
-/// Writes all bytes, and then flushes once, even if there are none.
-///
-/// # Errors
-/// `WriteFault` if a write or the flush fails, or a write takes nothing; then a front of the bytes was
-/// written, which may be all of them.
+/// Writes all bytes, and then flushes once, even if there are none. Where that fails, or a write takes
+/// nothing, a front of the bytes was written, which may be all of them.
 #[tactic(auto, using(crate::proofs::Streams::Written::no_progress, crate::proofs::Streams::Written::sent_on, crate::proofs::Streams::Written::front_out, crate::proofs::Streams::Written::no_failure, crate::proofs::Streams::Written::rest_after))]
 pub fn write_answer<W: Sink>(writer: &mut W, bytes: &[u8]) -> Result<(), EngineFault>
     ensures writes { Sends (W.contents writer.old) (W.contents writer.new) bytes.now result }

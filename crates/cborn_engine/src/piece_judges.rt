@@ -43,9 +43,6 @@ impl<O: KeyOrder> PieceJudge<O> {
     }
 
     /// Takes the next bytes. After a fault they are passed over.
-    ///
-    /// # Errors
-    /// `AllocError` if memory is refused; then nothing is known of the judge.
     #[tactic(auto, using(crate::proofs::Streams::Judging::stays))]
     pub(crate) fn take(&mut self, piece: &[u8]) -> Result<(), AllocError>
         requires { (limit : ℕ) × (x : List ℕ) × IsJudging ⟦<Encoder<O> as Visitor>⟧.holds self.old x limit × (length x + length piece.now < 2 ^ 64) }
@@ -73,10 +70,7 @@ impl<O: KeyOrder> PieceJudge<O> {
         self.fault.is_some() || self.encoder.departs() || self.encoder.string_len() >= LONG_STRING
     }
 
-    /// What is judged of the bytes, which have ended.
-    ///
-    /// # Errors
-    /// The fault of bytes that aren't well-formed, or the first flaw of the first item that isn't valid.
+    /// What is judged of the bytes, which have ended, or the fault of their content.
     pub(crate) fn finish(self) -> Result<EncodedItems, EngineFault>
         ensures judged { IfOk result (λ found. (limit : ℕ) (x : List ℕ) → IsJudging ⟦<Encoder<O> as Visitor>⟧.holds self x limit → AreJudged O.order limit x found.bytes.items found.defect) }
         ensures refused { IfErr result (λ why. (limit : ℕ) (x : List ℕ) → IsJudging ⟦<Encoder<O> as Visitor>⟧.holds self x limit → IsRefusedHeld Kind.Wire limit x why) }
@@ -96,10 +90,7 @@ impl<O: KeyOrder> PieceJudge<O> {
     }
 }
 
-/// The fault of bytes, with its offset, for which they were refused.
-///
-/// # Errors
-/// `AllocError` where memory was refused.
+/// The fault of bytes, with its offset, for which they were refused, unless memory was.
 fn fault_in(why: VisitFault) -> Result<(u64, WireReason), AllocError>
     ensures { IfOk result (λ fault. why ≡ Refused fault.0 fault.1) }
 {

@@ -41,9 +41,6 @@ const MOST_ROOM: usize = 1 << 16;
 
 /// Makes room for a piece after the first `filled` bytes, which stay. A full buffer grows by its
 /// length, but by no less than `FIRST_ROOM` and by no more than `MOST_ROOM`.
-///
-/// # Errors
-/// `AllocError` if memory is refused.
 pub fn make_room(bytes: &mut Vec<u8>, filled: usize) -> Result<(), AllocError>
     requires { filled ≤ length bytes.old.items }
     ensures front { OnOk result (take filled bytes.new.items ≡ take filled bytes.old.items) }
@@ -55,12 +52,8 @@ pub fn make_room(bytes: &mut Vec<u8>, filled: usize) -> Result<(), AllocError>
     bytes.resize(filled + filled.max(FIRST_ROOM).min(MOST_ROOM), 0)
 }
 
-/// Reads the next piece of an input, which may have at most `left` more bytes, to `bytes` from the
-/// offset `filled` on, and gives its length in bytes: 0 only at the end. The bytes before that
-/// offset stay.
-///
-/// # Errors
-/// `ReadFault` if the reader fails. `TooLong` if it gives more than `left` bytes.
+/// Reads the next piece of an input, as [`read_piece`] does, to `bytes` from the offset `filled` on. The
+/// bytes before that offset stay.
 pub fn read_after<R: Source>(
     reader: &mut R,
     bytes: &mut Vec<u8>,

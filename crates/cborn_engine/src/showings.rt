@@ -30,9 +30,6 @@ pub fn is_own_spelling(limit: Limit, in_kind: Kind, out_kind: Kind, input: &[u8]
 
 /// The items of an input as they are spelled, in a form of this kind. Bytes that stay as they are
 /// have their answer from `is_own_spelling`, and are not copied here.
-///
-/// # Errors
-/// The fault of its content, `Show`, or `OutOfMemory`.
 #[inline(always)]
 pub fn show_input(
     alloc: Global,
@@ -70,11 +67,8 @@ fn tell_bytes(
     }
 }
 
-/// Bytes in notation.
-///
-/// # Errors
-/// The fault of bytes that aren't well-formed, also where memory was refused; `Show` where a text
-/// string isn't UTF-8; `OutOfMemory` where a growth of the text was refused.
+/// Bytes in notation. The fault of bytes that aren't well-formed is answered also where memory was
+/// refused, and else `Show` where a text string isn't UTF-8.
 #[inline(always)]
 fn notate_bytes(
     alloc: Global,

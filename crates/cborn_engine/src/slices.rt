@@ -278,9 +278,6 @@ pub(crate) fn written_as<'a>(
 
 /// Bytes that hold items, in notation. They have one: such bytes are well-formed, and their text strings
 /// are UTF-8.
-///
-/// # Errors
-/// Where a growth of the text was refused.
 fn fixed_text(alloc: Global, limit: Limit, bytes: &[u8]) -> Result<Vec<u8>, AllocError>
     requires { (items : List Value) × Holds Kind.Wire limit bytes.now items }
     ensures { IfOk result (λ text. IsFixedText bytes.now text.items) }

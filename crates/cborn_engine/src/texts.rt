@@ -14,10 +14,7 @@ use cborn_model::{Limit, Spelled, Visitor};
 use simdutf8::compat::from_utf8;
 use std::alloc::Global;
 
-/// The text that bytes are.
-///
-/// # Errors
-/// `TextInput` where they aren't UTF-8, with the length of their longest front that is.
+/// The text that bytes are. The fault of others is the length of their longest front that is UTF-8.
 pub fn text_of(bytes: &[u8]) -> Result<&str, EngineFault>
     ensures text { IfOk result (λ text. (text.now ≡ bytes.now) × IsUtf8 bytes.now) }
     ensures refused { IfErr result (λ why. (profile : ProfileSpec) (limit : ℕ) → IsRefusedHeld (kind_of profile) limit bytes.now why × IsNoFlaw why) }
@@ -29,11 +26,7 @@ pub fn text_of(bytes: &[u8]) -> Result<&str, EngineFault>
     }
 }
 
-/// The bytes that the nodes spell which a text notates.
-///
-/// # Errors
-/// `TextInput` where the text isn't UTF-8, `Edn` with the fault of its tokens, of its syntax or of its
-/// meaning, and `OutOfMemory`.
+/// The bytes that the nodes spell which a text notates, or the fault of its content.
 pub fn bytes_of_text(
     alloc: Global,
     limit: Limit,
@@ -47,10 +40,7 @@ pub fn bytes_of_text(
     Ok(read_text(alloc, limit, profile, text)?)
 }
 
-/// The nodes that a text notates.
-///
-/// # Errors
-/// The fault of its content, or `OutOfMemory`.
+/// The nodes that a text notates, or the fault of its content.
 pub fn notated_nodes(
     alloc: Global,
     limit: Limit,
@@ -65,10 +55,7 @@ pub fn notated_nodes(
 }
 
 /// Hands the nodes that a text notates to a visitor that was handed nothing, with their places in the
-/// text.
-///
-/// # Errors
-/// Those of [`bytes_of_text`]. Then nothing is known of the visitor.
+/// text. After an error nothing is known of the visitor.
 pub fn hand_text<V: Visitor>(
     alloc: Global,
     limit: Limit,

@@ -29,9 +29,6 @@ pub fn read_bytes<R: Source>(
 
 /// What `read_bytes` gives of an input whose first bytes are `front`, and were read. The others are
 /// read straight into the buffer that is the answer, which grows with them.
-///
-/// # Errors
-/// Those of `read_bytes`.
 pub fn read_on<R: Source>(most: u64, front: Vec<u8>, reader: &mut R) -> Result<Vec<u8>, InputFault>
     requires bounded { most + 1 < 2 ^ 64 }
     requires within { length front.items ≤ most }

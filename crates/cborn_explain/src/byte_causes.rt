@@ -1,36 +1,40 @@
 //! Why bytes are refused or aren't deterministic: a sentence for each reason.
 
-use crate::byte_heads::{content_len, content_of, item_at, whole_head};
-use crate::byte_walks::Walk;
-use crate::faults::count_sentence;
+use crate::byte_walks::{Walk, content_len, content_of, item_at, place_in, whole_head};
+use crate::faults::{Found, count_sentence};
 use crate::items::ItemReader;
-use crate::order_causes::rule;
 use crate::quotes::{Hex, Text, slice_of, valid_front};
 use cborn_edn::ShowFault;
-use cborn_engine::{CountFault, EngineFault};
+use cborn_engine::{CountFault, EngineFault, Kind};
 use cborn_judge::{DefectReason, Invalid, InvalidReason};
-use cborn_model::{Major, shortest};
+use cborn_model::{Bytewise, KeyOrder, LengthFirst, Major, shortest};
 use cborn_wire::{
     Argument, Head, HeadRead, Level, LevelKind, WireFault, WireReason, head_bytes, read_head,
 };
 use std::alloc::{AllocError, Global};
-use std::fmt::{self, Display, Formatter};
+use std::cmp::Ordering;
 
 /// How many bytes of an encoding are written at most.
 const ENCODING: usize = 16;
 
 /// Bytes that are refused or aren't deterministic, and where.
-#[derive(Clone, Copy)]
+#[derive(Drop)]
 pub(crate) struct RefusedBytes<'a> {
-    pub(crate) bytes: &'a [u8],
-    /// A walk over the bytes to the place that was reported with the reason: to the head that begins
-    /// there, or to the one whose argument or string the place is in.
-    pub(crate) walk: &'a Walk,
     /// It has the nesting limit under which they are refused.
-    pub(crate) items: &'a ItemReader,
+    pub(crate) items: ItemReader,
+    /// The offset in bytes that was reported with the reason.
+    pub(crate) place: usize,
+    /// A walk to it: to the head that begins there, or to the one whose argument or string it is in.
+    pub(crate) walk: Walk<'a>,
 }
 
 impl<'a> RefusedBytes<'a> {
+    pub(crate) fn at(items: ItemReader, bytes: &'a [u8], place: u64) -> Result<Self, AllocError> {
+        let place = place_in(bytes, place);
+        let walk = Walk::to(items.alloc, bytes, place)?;
+        Ok(RefusedBytes { items, place, walk })
+    }
+
     /// The sentence for a fault. Empty where it is none of the content of bytes.
     pub(crate) fn fault(&self, fault: CountFault) -> Text {
         match fault {
@@ -51,12 +55,10 @@ impl<'a> RefusedBytes<'a> {
     pub(crate) fn defect(&self, reason: DefectReason) -> Text {
         match reason {
             DefectReason::LongHead => self.long_head(),
-            DefectReason::EndlessLength => {
-                let kind = kind_of(self.first());
-                format!(in self.items.alloc;
-                    "the {kind} has an indefinite length, and the deterministic encoding tells each length in the head"
-                )
-            }
+            DefectReason::EndlessLength => format!(in self.items.alloc;
+                "the {} has an indefinite length, and the deterministic encoding tells each length in the head",
+                kind_of(self.first())
+            ),
             DefectReason::LooseBignum => self.loose_bignum(),
             DefectReason::KeyOrder => self.key_order(),
         }
@@ -64,7 +66,7 @@ impl<'a> RefusedBytes<'a> {
 
     /// The bytes from the head on to which the walk has come.
     fn rest(&self) -> &'a [u8] {
-        slice_of(self.bytes, self.walk.at, self.bytes.len())
+        slice_of(self.walk.bytes, self.walk.at, self.walk.bytes.len())
     }
 
     /// The first byte of that head. 0: the input ends there.
@@ -77,6 +79,7 @@ impl<'a> RefusedBytes<'a> {
         let (alloc, level) = (self.items.alloc, self.walk.innermost());
         let first = self.first();
         let (kind, information, place) = (kind_of(first), first % 32, level.place);
+        let missing = missing(alloc, level)?;
         match reason {
             WireReason::ReservedInfo => format!(in alloc;
                 "the low five bits of the initial byte {first:02x} are {information}, and no head has 28, 29 or 30 there"
@@ -87,10 +90,9 @@ impl<'a> RefusedBytes<'a> {
             WireReason::BadChunk => format!(in alloc;
                 "an indefinite-length string is open since offset {place}: only definite-length strings of its kind may follow, or the break ff"
             ),
-            WireReason::UnexpectedBreak => {
-                let missing = missing(alloc, level)?;
-                format!(in alloc; "a break ends an indefinite length, and {missing}")
-            }
+            WireReason::UnexpectedBreak => format!(in alloc;
+                "a break ends an indefinite length, and {missing}"
+            ),
             WireReason::FloatLeftOut => {
                 let bits = head_len(first).saturating_sub(1).saturating_mul(8);
                 format!(in alloc; "a float of {bits} bits begins here, and floats are left out")
@@ -101,54 +103,40 @@ impl<'a> RefusedBytes<'a> {
                     "after f8 comes {second:02x}, the simple value {second}: none below 32 has two bytes"
                 )
             }
-            WireReason::TooDeep => too_deep(self.items, "arrays, maps and tags"),
+            WireReason::TooDeep => too_deep(&self.items, "arrays, maps and tags"),
             WireReason::Truncated if !self.rest().is_empty() => self.cut_head(),
             WireReason::Truncated if level.kind == LevelKind::Sequence => format!(in alloc;
                 "the input ends"
             ),
-            WireReason::Truncated => {
-                let missing = missing(alloc, level)?;
-                format!(in alloc; "the input ends, and {missing}")
-            }
+            WireReason::Truncated => format!(in alloc; "the input ends, and {missing}"),
         }
     }
 
     /// The bytes of the item at the place.
     fn item(&self) -> Result<&'a [u8], AllocError> {
-        item_at(self.items.alloc, self.bytes, self.walk.at)
+        item_at(self.items.alloc, self.walk.bytes, self.walk.at)
     }
 
     /// Which key the key at the place repeats.
     fn duplicate_key(&self) -> Text {
         let alloc = self.items.alloc;
         let key = self.items.notation(self.item()?)?;
-        match self.earlier_key()? {
-            Some((_, place)) => format!(in alloc;
-                "the key {key} is the same as the key at offset {place} of this map"
-            ),
-            None => format!(in alloc; "the key {key} is the same as an earlier key of this map"),
-        }
-    }
-
-    /// The first key of the open map that is the same as the key at the place, as `key_from` gives it.
-    fn earlier_key(&self) -> Result<Option<(u64, usize)>, AllocError> {
-        let (bytes, later) = (self.bytes, self.walk.at);
         let map = self.walk.innermost().place as usize;
-        let head = whole_head(slice_of(bytes, map, bytes.len()));
-        let key = self.items.encoded_at(bytes, later)?;
-        let (Some((_, len)), Some(key)) = (head, key) else {
-            return Ok(None);
+        let before = slice_of(self.walk.bytes, map, self.walk.at);
+        let begin = whole_head(before).map_or(0, |(_, len)| len);
+        let Some((_, at)) = self.items.find_key(before, begin, self.rest())? else {
+            return format!(in alloc; "the key {key} is the same as an earlier key of this map");
         };
-        self.items
-            .key_from(bytes, map.saturating_add(len), later, &key)
+        let place = map.saturating_add(at);
+        format!(in alloc; "the key {key} is the same as the key at offset {place} of this map")
     }
 
     /// Before which key the key at the place has to come, and by which order.
     fn key_order(&self) -> Text {
         let (alloc, item) = (self.items.alloc, self.item()?);
         let (from, to) = self.walk.last_key();
-        let before = slice_of(self.bytes, from, to);
-        let rule = rule(self.items, item, before)?;
+        let before = slice_of(self.walk.bytes, from, to);
+        let rule = rule(&self.items, item, before)?;
         let (key, other) = (self.items.notation(item)?, self.items.notation(before)?);
         format!(in alloc; "the key {key} has to come before the key {other} at offset {from}{rule}")
     }
@@ -184,14 +172,15 @@ impl<'a> RefusedBytes<'a> {
 
     /// Why the bignum at the place isn't deterministic, and the deterministic encoding of its integer.
     fn loose_bignum(&self) -> Text {
+        let alloc = self.items.alloc;
         let rule = "a bignum is for integers beyond 64 bits, and its bytes begin with no 00";
-        match self.items.encoded_at(self.bytes, self.walk.at)? {
-            Some(encoding) => format!(in self.items.alloc;
-                "{rule}: the shortest encoding is {}",
-                Hex(&encoding, ENCODING)
-            ),
-            None => String::from_str(self.items.alloc, rule),
-        }
+        let Some(encoding) = self.items.encoded_at(self.walk.bytes, self.walk.at)? else {
+            return String::from_str(alloc, rule);
+        };
+        format!(in alloc;
+            "{rule}: the shortest encoding is {}",
+            Hex(&encoding, ENCODING)
+        )
     }
 
     /// What tag 2 or 3 at the place has in place of a byte string.
@@ -219,7 +208,7 @@ impl<'a> RefusedBytes<'a> {
             return format!(in alloc; "the head isn't the shortest");
         };
         let (n, long) = (argument_of(head), Hex(slice_of(rest, 0, len), 9));
-        let short = Shortest(head.major_type(), n);
+        let short = shortest_head(alloc, head.major_type(), n)?;
         format!(in alloc; "the head {long} holds {n}, and the shortest that does is {short}")
     }
 }
@@ -238,7 +227,7 @@ pub(crate) fn too_deep(items: &ItemReader, open: &str) -> Text {
 /// What the container of an open level lacks, or that none is open.
 fn missing(alloc: Global, level: Level) -> Text {
     let (place, count, parts) = (level.place, level.argument, level.parts());
-    let s = plural(count);
+    let (s, pairs) = (plural(count), parts / 2);
     let endless = match level.kind {
         LevelKind::Sequence => return format!(in alloc; "nothing is open here"),
         LevelKind::Array => return format!(in alloc;
@@ -246,12 +235,9 @@ fn missing(alloc: Global, level: Level) -> Text {
         ),
         LevelKind::Map | LevelKind::GreatMap | LevelKind::EndlessMap if parts % 2 == 1 =>
             return format!(in alloc; "the map at offset {place} lacks the value of its last key"),
-        LevelKind::Map | LevelKind::GreatMap => {
-            let pairs = parts / 2;
-            return format!(in alloc;
-                "the map at offset {place} announces {count} pair{s} and has {pairs}"
-            );
-        }
+        LevelKind::Map | LevelKind::GreatMap => return format!(in alloc;
+            "the map at offset {place} announces {count} pair{s} and has {pairs}"
+        ),
         LevelKind::Tag => return format!(in alloc;
             "the tag {count} at offset {place} lacks its content"
         ),
@@ -299,17 +285,43 @@ fn argument_of(head: Head) -> u64 {
 }
 
 /// The shortest head of a major type with an argument, in hexadecimal.
-#[derive(Clone, Copy)]
-pub(crate) struct Shortest(pub(crate) Major, pub(crate) u64);
-
-impl Display for Shortest {
-    fn fmt<W: fmt::Write>(&self, f: &mut Formatter<W>) -> fmt::Result {
-        let Shortest(major, n) = *self;
-        let number = major.number();
-        if number > 6 {
-            return write!(f, "{n:02x}");
-        }
-        let (bytes, len) = head_bytes(number, shortest(n), n);
-        write!(f, "{}", Hex(slice_of(&bytes, 0, len), 9))
+pub(crate) fn shortest_head(alloc: Global, major: Major, n: u64) -> Text {
+    let number = major.number();
+    if number > 6 {
+        return format!(in alloc; "{n:02x}");
     }
+    let (bytes, len) = head_bytes(number, shortest(n), n);
+    format!(in alloc; "{}", Hex(slice_of(&bytes, 0, len), 9))
+}
+
+/// By which order `key` comes before `other`, the key that precedes it. Empty where one is no valid item.
+fn rule(items: &ItemReader, key: &[u8], other: &[u8]) -> Result<&'static str, AllocError> {
+    let bytewise = is_first::<Bytewise>(items, key, other)?;
+    let length_first = is_first::<LengthFirst>(items, key, other)?;
+    let (Some((bytewise, differ)), Some((length_first, _))) = (bytewise, length_first) else {
+        return Ok("");
+    };
+    // orders may differ where the encodings are equally long: each also sorts the maps within the keys
+    Ok(match (bytewise, length_first) {
+        (true, false) if differ =>
+            ": in the bytewise order its encoding is the lesser; the length-first order has these two as they are, since it is the longer",
+        (true, false) =>
+            ": in the bytewise order its encoding is the lesser; the length-first order has these two as they are",
+        (false, true) if differ =>
+            ": in the length-first order its encoding is the shorter; the bytewise order has these two as they are",
+        (false, true) =>
+            ": in the length-first order its encoding is the lesser; the bytewise order has these two as they are",
+        _ => ": its encoding is the lesser, in the bytewise order and in the length-first order",
+    })
+}
+
+/// Whether `key` comes before `other` in the order `O`, and whether their encodings differ in length.
+fn is_first<O: KeyOrder>(items: &ItemReader, key: &[u8], other: &[u8]) -> Found<(bool, bool)> {
+    let ours = items.encoded::<O>(Kind::Wire, key)?;
+    let theirs = items.encoded::<O>(Kind::Wire, other)?;
+    let (Some(ours), Some(theirs)) = (ours, theirs) else {
+        return Ok(None);
+    };
+    let is_less = matches!(O::compare(&ours, &theirs), Ordering::Less);
+    Ok(Some((is_less, ours.len() != theirs.len())))
 }

@@ -1,19 +1,24 @@
 //! A walk over the first bytes of an input: what is open at their end, and where the parts of that
-//! begin.
+//! begin. Heads with the bytes of their strings, and where an item ends.
 
 ghost use Rattle.std.specs.Prelude.{◌≡◌, ◌≤◌, ◌⊎◌, length, IfOk, OnOk, Err, alloc_error};
 ghost use Rattle.cborn_wire.specs.declared.faults.VisitFault.TheVariants.{Memory};
 ghost use Rattle.cborn_explain.specs.devices.Walks.{step_of, path_of, place_at, IsWalked};
 
 use crate::paths::{Path, Step};
+use crate::quotes::slice_of;
 use cborn_engine::Places;
-use cborn_model::Limit;
-use cborn_wire::{GrownLevels, HeadReader, Level, LevelKind, Until, VisitFault};
+use cborn_model::{Limit, Major};
+use cborn_wire::{
+    Argument, GrownLevels, Head, HeadRead, HeadReader, Level, LevelKind, Until, VisitFault,
+    first_end, read_head,
+};
 use std::alloc::{AllocError, Global};
 
 /// A walk from head to head, between two of them.
 #[derive(Drop)]
-pub(crate) struct Walk {
+pub(crate) struct Walk<'a> {
+    pub(crate) bytes: &'a [u8],
     /// The input and what is open in it, the innermost last.
     levels: Vec<Level>,
     parts: Places,
@@ -21,10 +26,9 @@ pub(crate) struct Walk {
     pub(crate) at: usize,
 }
 
-impl Walk {
-    /// A walk to the head at `place`; to the head whose argument or string the place is in; or to a
-    /// head before it that isn't whole or isn't allowed.
-    pub(crate) fn to(alloc: Global, bytes: &[u8], place: usize) -> Result<Walk, AllocError>
+impl<'a> Walk<'a> {
+    /// A walk to the head that is at `place` or around it, or before it to one that isn't whole or allowed.
+    pub(crate) fn to(alloc: Global, bytes: &'a [u8], place: usize) -> Result<Self, AllocError>
         requires { place ≤ length bytes.now }
         ensures { IfOk result (λ walk. IsWalked bytes.now place walk.at walk.levels.items) }
     {
@@ -35,7 +39,12 @@ impl Walk {
         had_memory(reader.read(&mut levels, &mut parts, &bytes[..place], Until::End))?;
         let at = parts.string.unwrap_or(reader.next_head()) as usize;
         let levels = levels.into_vec()?;
-        Ok(Walk { levels, parts, at })
+        Ok(Walk {
+            bytes,
+            levels,
+            parts,
+            at,
+        })
     }
 
     /// The path to the head that comes next.
@@ -64,37 +73,28 @@ impl Walk {
         self.levels.last().copied().unwrap_or_default()
     }
 
-    /// The offset of the item to which the next head belongs. Where that head is of a chunk, it is the
-    /// offset of the string; where it is of the bytes of a bignum, that of the bignum.
+    /// The offset of the item to which the next head belongs: a string in chunks or a bignum as a whole.
     pub(crate) fn item_place(&self) -> usize {
-        let mut place = self.at;
-        for level in self.levels.iter().rev() {
-            if !holds_parts(*level) {
-                break;
-            }
-            place = level.place as usize;
-        }
-        place
+        let around = self.levels.iter().rev();
+        let outermost = around.take_while(|level| holds_parts(**level)).last();
+        outermost.map_or(self.at, |level| level.place as usize)
     }
 
-    /// The offsets in bytes at which the last key begins and ends in the level with this index,
-    /// a map in which a value is next.
-    pub(crate) fn key_at(&self, index: usize) -> (usize, usize) {
+    /// The last key in the level with this index, a map in which a value is next.
+    pub(crate) fn key_at(&self, index: usize) -> &'a [u8] {
         let end = self.place_of(index.saturating_add(1));
         let (before, last) = self.last_two(index);
-        (if last < end { last } else { before }, end)
+        slice_of(self.bytes, if last < end { last } else { before }, end)
     }
 
-    /// The offsets in bytes at which the last key begins and ends in the innermost level, a map in
-    /// which a key is next.
+    /// Where the last key begins and ends in the innermost level, a map in which a key is next.
     pub(crate) fn last_key(&self) -> (usize, usize) {
         self.last_two(self.levels.len().saturating_sub(1))
     }
 
-    /// The offsets in bytes at which the last two parts begin of the level with this index.
+    /// Where the last two parts begin of the level with this index.
     fn last_two(&self, index: usize) -> (usize, usize) {
-        let around = self.parts.around.get(index).copied();
-        let (before, last) = around.unwrap_or(self.parts.last);
+        let (before, last) = *self.parts.around.get(index).unwrap_or(&self.parts.last);
         (before as usize, last as usize)
     }
 }
@@ -126,16 +126,10 @@ fn step(level: &Level) -> Step
     match level.kind {
         LevelKind::Sequence => Step::Item(parts),
         LevelKind::Array | LevelKind::EndlessArray => Step::Element(parts),
-        LevelKind::Map | LevelKind::GreatMap | LevelKind::EndlessMap => {
-            let pairs = parts / 2;
-            if parts % 2 == 0 {
-                Step::Key(pairs)
-            } else {
-                Step::Value(pairs)
-            }
-        }
         LevelKind::Tag => Step::Content(u128::from(level.argument)),
         LevelKind::Chunks(_) => Step::Chunk(parts),
+        _ if parts % 2 == 0 => Step::Key(parts / 2),
+        _ => Step::Value(parts / 2),
     }
 }
 
@@ -145,4 +139,44 @@ pub(crate) fn place_in(bytes: &[u8], place: u64) -> usize
     ensures place { (result ≡ place) ⊎ ((result ≡ length bytes.now) × (length bytes.now ≤ place)) }
 {
     place.min(bytes.len() as u64) as usize
+}
+
+/// The head at the start of the bytes, and its length with the content of its string. `None`: none is whole.
+pub(crate) fn whole_head(bytes: &[u8]) -> Option<(Head, usize)> {
+    let HeadRead::Full(head, len) = read_head(bytes) else {
+        return None;
+    };
+    let content = content_len(head);
+    let is_whole = content <= bytes.len().saturating_sub(len) as u64;
+    is_whole.then_some((head, len.saturating_add(content as usize)))
+}
+
+/// How many bytes of content follow the head of a string. 0: it is no such head, or of indefinite length.
+pub(crate) fn content_len(head: Head) -> u64 {
+    match (head.major_type(), head.argument) {
+        (Major::ByteString | Major::TextString, Argument::Given(_, count)) => count,
+        _ => 0,
+    }
+}
+
+/// The content of the string that some bytes begin with. Empty where they begin with none.
+pub(crate) fn content_of(bytes: &[u8]) -> &[u8] {
+    whole_head(bytes).map_or(&[], |(head, len)| {
+        slice_of(bytes, len.saturating_sub(content_len(head) as usize), len)
+    })
+}
+
+/// Where the item at `at` ends, or the offset of the first head there that isn't whole or isn't allowed.
+pub(crate) fn end_of_item(alloc: Global, bytes: &[u8], at: usize) -> Result<usize, AllocError> {
+    let rest = slice_of(bytes, at, bytes.len());
+    let end = match first_end(alloc, rest)? {
+        Some(end) => end,
+        None => Walk::to(alloc, rest, rest.len())?.at,
+    };
+    Ok(at.saturating_add(end))
+}
+
+/// The bytes of the item at an offset; of one that isn't whole or isn't allowed, those before that head.
+pub(crate) fn item_at(alloc: Global, bytes: &[u8], at: usize) -> Result<&[u8], AllocError> {
+    Ok(slice_of(bytes, at, end_of_item(alloc, bytes, at)?))
 }

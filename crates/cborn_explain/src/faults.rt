@@ -10,8 +10,11 @@ use cborn_lex::LexFault;
 use cborn_wire::WireFault;
 use std::alloc::AllocError;
 
+/// What was looked for, where there is one, or that memory is refused.
+pub(crate) type Found<T> = Result<Option<T>, AllocError>;
+
 /// What was answered. `None`: the input is refused.
-pub(crate) fn answered<T: Drop>(answer: Result<T, CountFault>) -> Result<Option<T>, AllocError> {
+pub(crate) fn answered<T: Drop>(answer: Result<T, CountFault>) -> Found<T> {
     match answer {
         Ok(answer) => Ok(Some(answer)),
         Err(CountFault::Engine(EngineFault::OutOfMemory)) => Err(AllocError),

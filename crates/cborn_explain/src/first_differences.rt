@@ -4,6 +4,7 @@ ghost use Rattle.std.specs.Prelude.{◌≡◌, ◌≤◌, ◌<◌, length, take,
 ghost use Rattle.cborn_explain.specs.Paths.{LeadsToDifference, up_to_key};
 
 use crate::byte_walks::Walk;
+use crate::faults::Found;
 use crate::paths::{Path, Step};
 use std::alloc::{AllocError, Global};
 
@@ -33,11 +34,11 @@ pub fn find_difference(
 }
 
 /// A walk over `first` to where the two first differ, and what [`find_difference`] gives.
-pub(crate) fn walk_to_difference(
+pub(crate) fn walk_to_difference<'a>(
     alloc: Global,
-    first: &[u8],
+    first: &'a [u8],
     second: &[u8],
-) -> Result<Option<(Walk, Difference)>, AllocError>
+) -> Found<(Walk<'a>, Difference)>
     ensures { IfOk result (λ found. MatchOption found (first.now ≡ second.now) (λ both. LeadsToDifference first.now second.now both.1.place both.1.path.steps.items)) }
 {
     let common = common_len(first, second);

@@ -1,7 +1,7 @@
 //! Single items of an input: to show them, and to compare them by their deterministic encodings.
 
-use crate::byte_heads::{content_of, end_of_item, item_at, whole_head};
-use crate::faults::answered;
+use crate::byte_walks::{content_of, end_of_item, item_at, whole_head};
+use crate::faults::{Found, answered};
 use crate::quotes::{CutNotation, Escaped, Hex, PIECE, Text, front_of};
 use cborn_edn::{Notated, show_bytes};
 use cborn_engine::{Count, Kind, normalise_slice};
@@ -9,8 +9,7 @@ use cborn_model::{Bytewise, KeyOrder, Limit, Major};
 use std::alloc::{AllocError, Global};
 use std::borrow::CowSlice;
 
-/// The most bytes of an item that is read and written as notation. Of a longer one only the start
-/// is read, so that a sentence costs no more for a long item.
+/// The most bytes of an item that is written as notation. Of a longer one only the start is read.
 const LONG_ITEM: usize = 512;
 
 /// Reads single items under a nesting limit.
@@ -21,15 +20,12 @@ pub(crate) struct ItemReader {
 }
 
 impl ItemReader {
-    /// The deterministic encoding of the one item of an input, the keys of maps in the order `O` (RFC
-    /// 8949 section 4.2). Two items are the same exactly if these are equal, and to compare these takes
-    /// their length, in whatever order keys were written. `None`: the input doesn't hold exactly one
-    /// item, or that is invalid.
+    /// The deterministic encoding of the one valid item that an input holds. `None`: it holds none.
     pub(crate) fn encoded<'a, O: KeyOrder>(
         &self,
         kind: Kind,
         input: &'a [u8],
-    ) -> Result<Option<CowSlice<'a, u8, Global>>, AllocError> {
+    ) -> Found<CowSlice<'a, u8, Global>> {
         let (alloc, limit) = (self.alloc, self.limit);
         answered(normalise_slice::<O>(alloc, limit, Count::One, kind, Kind::Wire, input))
     }
@@ -39,26 +35,22 @@ impl ItemReader {
         &self,
         bytes: &'a [u8],
         at: usize,
-    ) -> Result<Option<CowSlice<'a, u8, Global>>, AllocError> {
+    ) -> Found<CowSlice<'a, u8, Global>> {
         self.encoded::<Bytewise>(Kind::Wire, item_at(self.alloc, bytes, at)?)
     }
 
-    /// The first key from the offset `at` on, a key of a map, and before `stop`, of which `wanted` is the
-    /// encoding: the index of its pair, from there on, and its offset. `None`: no key is the same.
-    pub(crate) fn key_from(
-        &self,
-        bytes: &[u8],
-        mut at: usize,
-        stop: usize,
-        wanted: &[u8],
-    ) -> Result<Option<(u64, usize)>, AllocError> {
+    /// The first key from that at `at` on that is the same as `key`: the index of its pair, and its offset.
+    pub(crate) fn find_key(&self, bytes: &[u8], mut at: usize, key: &[u8]) -> Found<(u64, usize)> {
+        let Some(wanted) = self.encoded_at(key, 0)? else {
+            return Ok(None);
+        };
         'pairs: for index in 0..bytes.len() as u64 {
-            if at >= stop {
+            if at >= bytes.len() {
                 break;
             }
-            match self.encoded_at(bytes, at)? {
-                Some(key) if *key == *wanted => return Ok(Some((index, at))),
-                _ => {}
+            let key = self.encoded_at(bytes, at)?;
+            if key.is_some_and(|key| *key == *wanted) {
+                return Ok(Some((index, at)));
             }
             at = end_of_item(self.alloc, bytes, at)?;
             at = end_of_item(self.alloc, bytes, at)?;
@@ -66,28 +58,26 @@ impl ItemReader {
         Ok(None)
     }
 
-    /// The item that these bytes encode in the fixed notation, cut where it is long. Where they encode no
-    /// item that has a notation, the bytes in hexadecimal. Of more than `LONG_ITEM` bytes it is what the
-    /// first head says, and the start of a string.
+    /// The item that these bytes encode in the fixed notation, or where there is none in hexadecimal. Cut.
     pub(crate) fn notation(&self, item: &[u8]) -> Text {
         let alloc = self.alloc;
-        if item.len() > LONG_ITEM {
-            return front(alloc, item);
+        let bytes = Hex(item, PIECE / 3);
+        if item.len() <= LONG_ITEM {
+            return match show_bytes(alloc, self.limit, item)? {
+                Notated::Text(text) => format!(in alloc; "{}", CutNotation(text.trim_ascii_end())),
+                _ => format!(in alloc; "{bytes}"),
+            };
         }
-        match show_bytes(alloc, self.limit, item)? {
-            Notated::Text(text) => format!(in alloc; "{}", CutNotation(text.trim_ascii_end())),
-            _ => format!(in alloc; "{}", Hex(item, PIECE / 3)),
+        match whole_head(item) {
+            Some((head, _)) => front(alloc, head.major_type(), content_of(item)),
+            None => format!(in alloc; "{bytes}"),
         }
     }
 }
 
-/// The start of a long item.
-fn front(alloc: Global, item: &[u8]) -> Text {
-    let Some((head, _)) = whole_head(item) else {
-        return format!(in alloc; "{}", Hex(item, PIECE / 3));
-    };
-    let content = content_of(item);
-    match head.major_type() {
+/// The start of a long item, a string with this content or another of this major type.
+fn front(alloc: Global, major: Major, content: &[u8]) -> Text {
+    match major {
         Major::TextString if !content.is_empty() => {
             let text = front_of(content, PIECE);
             format!(in alloc; "\"{}\"..", Escaped { text })

@@ -20,24 +20,16 @@
 //! they have. docs/FORMATS.md has their form.
 //!
 //! - `notes`: the lines of one input; start here. `comparisons`: those of two. `differences`: of two that
-//!   hold other items. `same_items`: of two that hold the same. `compared_parts`: where parts of the two are.
-//! - `paths`: paths, and that to an offset. `first_differences`: where two inputs differ.
-//! - `byte_walks`: a walk over bytes to an offset.
-//! - `byte_heads`: heads with their strings, and where an item ends.
-//! - `path_lines`: a path in a line. `hints`: whether bytes look like a text.
-//! - `faults`: the faults that are in the content of an input.
-//! - `byte_causes`, `order_causes`, `text_causes`: the sentence for each reason.
-//! - `text_walks`: a walk over a text from token to token.
-//! - `text_spots`: the character within a token that is at fault.
-//! - `text_keys`: the key that a later key repeats.
-//! - `quotes`: quoted pieces of the input, which change nothing but their line.
-//! - `items`: single items, read for the sentences.
+//!   hold other items. `same_items`: of two that hold the same.
+//! - `paths`: paths, that to an offset, and how they are written. `first_differences`: where two inputs differ.
+//! - `byte_walks`: a walk over bytes to an offset. `text_walks`: one over a text from token to token.
+//! - `faults`: the faults that are in the content of an input. `hints`: whether bytes look like a text.
+//! - `byte_causes`, `text_causes`: the sentence for each reason. `text_spots`: the character within a token
+//!   that is at fault. `quotes`: quoted pieces of the input. `items`: single items, read for the sentences.
 #![tactic(auto)]
 
 mod byte_causes;
-mod byte_heads;
 mod byte_walks;
-mod compared_parts;
 mod comparisons;
 mod differences;
 mod faults;
@@ -45,18 +37,14 @@ mod first_differences;
 mod hints;
 mod items;
 mod notes;
-mod order_causes;
-mod path_lines;
 mod paths;
 mod quotes;
 mod same_items;
 mod text_causes;
-mod text_keys;
 mod text_spots;
 mod text_walks;
 
-pub use compared_parts::Compared;
-pub use comparisons::explain_comparison;
+pub use comparisons::{Compared, explain_comparison};
 pub use differences::explain_difference;
 pub use faults::place_of;
 pub use first_differences::{Difference, find_difference};

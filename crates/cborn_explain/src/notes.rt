@@ -1,13 +1,12 @@
 //! The lines of an explanation: where, what is there, and why.
 
 use crate::byte_causes::RefusedBytes;
-use crate::byte_walks::{Walk, place_in};
+use crate::byte_walks::place_in;
 use crate::faults::place_of;
 use crate::hints::hint_of;
 use crate::items::ItemReader;
-use crate::path_lines::{Pairs, PathWriter, path_line};
-use crate::paths::Step;
-use crate::quotes::{CutNotation, HexAround, Text, slice_of, text_around};
+use crate::paths::{Pairs, Step, joined, path_line, step_text};
+use crate::quotes::{CutNotation, Text, hex_around, slice_of, text_around};
 use crate::text_causes::RefusedText;
 use crate::text_spots::spot_of;
 use crate::text_walks::{NotationText, TextWalk, walk_text};
@@ -34,20 +33,15 @@ pub fn explain_fault(
     input: &[u8],
     fault: CountFault,
 ) -> Result<String, AllocError> {
-    let items = &ItemReader { alloc, limit };
+    let items = ItemReader { alloc, limit };
     let Some(place) = place_of(fault) else {
         return Ok(String::new(alloc));
     };
-    let place = place_in(input, place);
-    match NotationText::of(kind, input) {
-        None => {
-            let walk = &Walk::to(alloc, input, place)?;
-            let bytes = input;
-            let why = RefusedBytes { bytes, walk, items }.fault(fault)?;
-            lines_of_bytes(items, (bytes, walk), place, &why)
-        }
-        Some(text) => lines_of_text(items, text, place, fault),
-    }
+    let Some(text) = NotationText::of(kind, input) else {
+        let refused = RefusedBytes::at(items, input, place)?;
+        return lines_of_bytes(&refused, &refused.fault(fault)?);
+    };
+    lines_of_text(&items, text, place_in(input, place), fault)
 }
 
 /// Lines that say where bytes aren't deterministic, and why: those of [`explain_fault`] for the first
@@ -61,26 +55,17 @@ pub fn explain_defect(
     bytes: &[u8],
     defect: Defect,
 ) -> Result<String, AllocError> {
-    let items = &ItemReader { alloc, limit };
-    let place = place_in(bytes, defect.place);
-    let walk = &Walk::to(alloc, bytes, place)?;
-    let why = RefusedBytes { bytes, walk, items }.defect(defect.reason)?;
-    lines_of_bytes(items, (bytes, walk), place, &why)
+    let refused = RefusedBytes::at(ItemReader { alloc, limit }, bytes, defect.place)?;
+    lines_of_bytes(&refused, &refused.defect(defect.reason)?)
 }
 
-/// The lines on some bytes. `walk` is a walk over them to `place`, and `why` the sentence.
-fn lines_of_bytes(
-    items: &ItemReader,
-    (bytes, walk): (&[u8], &Walk),
-    place: usize,
-    why: &str,
-) -> Text {
-    let alloc = items.alloc;
-    let path = walk.path(alloc)?;
-    let path = path_line(items, (bytes, walk), &path, Pairs::Numbered)?;
-    let around = HexAround(bytes, place);
+/// The lines on some bytes. `why` is the sentence.
+fn lines_of_bytes(refused: &RefusedBytes<'_>, why: &str) -> Text {
+    let (alloc, walk) = (refused.items.alloc, &refused.walk);
+    let path = path_line(&refused.items, walk, &walk.path(alloc)?, Pairs::Numbered)?;
+    let around = hex_around(alloc, walk.bytes, refused.place)?;
     let mut lines = format!(in alloc; "  path  {path}\n  bytes {around}\n  why   {why}\n")?;
-    if let Some(hint) = hint_of(bytes) {
+    if let Some(hint) = hint_of(walk.bytes) {
         write!(lines, "  hint  {hint}\n")?;
     }
     Ok(lines)
@@ -113,19 +98,16 @@ fn lines_of_text(
     format!(in alloc; "  path  {path}\n{around}  why   {why}\n")
 }
 
-/// The path to where a walk over a text has come. It is cut before a bracket whose parts aren't known, and
-/// where the walk doesn't keep more brackets.
+/// The path to where a walk over a text has come, cut before a bracket that isn't kept, or whose parts.
 fn text_path(alloc: Global, text: &[u8], walk: &TextWalk) -> Text {
-    let mut path = PathWriter::new(alloc, Pairs::Numbered);
-    path.step(Step::Item(walk.items), &"")?;
-    for open in walk.open.iter() {
-        if open.is_lost {
-            return path.end(true);
-        }
+    let mut steps = Vec::new(alloc);
+    steps.push(step_text(alloc, Step::Item(walk.items), &"", Pairs::Numbered)?)?;
+    for open in walk.open.iter().take_while(|open| !open.is_lost) {
         if let Some(step) = open.step() {
-            let (from, to) = open.key;
-            path.step(step, &CutNotation(slice_of(text, from, to)))?;
+            let key = CutNotation(slice_of(text, open.key.0, open.key.1));
+            steps.push(step_text(alloc, step, &key, Pairs::Numbered)?)?;
         }
     }
-    path.end(walk.beyond > 0)
+    let is_cut = walk.beyond > 0 || walk.open.iter().any(|open| open.is_lost);
+    joined(alloc, &steps, if is_cut { " .." } else { "" })
 }

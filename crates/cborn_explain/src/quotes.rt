@@ -10,48 +10,23 @@ pub(crate) type Text = Result<String, AllocError>;
 
 /// How many bytes are written before the one at a place.
 const BYTES_BEFORE: usize = 8;
-
 /// How many bytes are written around the one at a place.
 const AROUND: usize = 20;
-
 /// How many characters of a piece are written at most.
 pub(crate) const PIECE: usize = 40;
-
 /// How many characters of a line are written before a place.
 const LINE_BEFORE: usize = 40;
-
 /// How many characters of a line are written from a place on.
 const LINE_AFTER: usize = 30;
 
-/// Whether a terminal shows the character as itself. It doesn't where the character is a control or
-/// not shown, ends a line or changes the direction of text. Marks over the character before are shown.
-fn is_plain(c: char) -> bool {
-    let code = c as u32;
-    !matches!(
-        code,
-        0..=0x1f
-            | 0x7f..=0x9f
-            | 0xad
-            | 0x34f
-            | 0x61c
-            | 0x115f..=0x1160
-            | 0x17b4..=0x17b5
-            | 0x180b..=0x180f
-            | 0x200b..=0x200f
-            | 0x2028..=0x202f
-            | 0x205f..=0x206f
-            | 0x3164
-            | 0xfe00..=0xfe0f
-            | 0xfeff
-            | 0xffa0
-            | 0xfff0..=0xfffb
-            | 0xd800..=0xf8ff
-            | 0x13430..=0x1343f
-            | 0x1bca0..=0x1bca3
-            | 0x1d173..=0x1d17a
-            | 0xe0000..=0x10ffff
-    )
-}
+/// Where spans of characters begin: in turn those that a terminal doesn't show as themselves, since they
+/// are controls or not shown, end a line or change the direction of text, and those that it does.
+const SPANS: &[u32] = &[
+    0, 0x20, 0x7f, 0xa0, 0xad, 0xae, 0x34f, 0x350, 0x61c, 0x61d, 0x115f, 0x1161, 0x17b4, 0x17b6,
+    0x180b, 0x1810, 0x200b, 0x2010, 0x2028, 0x2030, 0x205f, 0x2070, 0x3164, 0x3165, 0xd800, 0xf900,
+    0xfe00, 0xfe10, 0xfeff, 0xff00, 0xffa0, 0xffa1, 0xfff0, 0xfffc, 0x13430, 0x13440, 0x1bca0,
+    0x1bca4, 0x1d173, 0x1d17b, 0xe0000,
+];
 
 /// A text that displays with its characters escaped as those of quoted pieces are.
 #[derive(Clone, Copy)]
@@ -62,10 +37,10 @@ pub struct Escaped<'a> {
 impl Display for Escaped<'_> {
     fn fmt<W: fmt::Write>(&self, f: &mut Formatter<W>) -> fmt::Result {
         for c in self.text.chars() {
-            if is_plain(c) {
+            let code = c as u32;
+            if SPANS.partition_point(|begin| *begin <= code) % 2 == 0 {
                 write!(f, "{c}")?;
             } else {
-                let code = c as u32;
                 write!(f, "\\u{code:04x}")?;
             }
         }
@@ -78,35 +53,20 @@ pub(crate) fn slice_of(bytes: &[u8], from: usize, to: usize) -> &[u8] {
     bytes.get(from..to).unwrap_or(&[])
 }
 
-/// The start of bytes as text: at most so many characters, and those alone that come before the first
-/// byte that isn't UTF-8. `..` follows where that isn't all.
-#[derive(Clone, Copy)]
-pub(crate) struct Cut<'a>(pub(crate) &'a [u8], pub(crate) usize);
-
-impl Display for Cut<'_> {
-    fn fmt<W: fmt::Write>(&self, f: &mut Formatter<W>) -> fmt::Result {
-        let text = front_of(self.0, self.1);
-        let dots = if text.len() < self.0.len() { ".." } else { "" };
-        write!(f, "{}{dots}", Escaped { text })
-    }
-}
-
-/// The start of a notation, at most `PIECE` characters. Where it is cut within a string, a quote closes
-/// the string before the `..`.
+/// The start of a notation, at most `PIECE` characters. A string that is cut ends in its quote and `..`.
 #[derive(Clone, Copy)]
 pub(crate) struct CutNotation<'a>(pub(crate) &'a [u8]);
 
 impl Display for CutNotation<'_> {
     fn fmt<W: fmt::Write>(&self, f: &mut Formatter<W>) -> fmt::Result {
         let text = front_of(self.0, PIECE);
-        write!(f, "{}", Escaped { text })?;
-        if text.len() == self.0.len() {
-            return Ok(());
-        }
-        if let Some(quote) = open_quote(text) {
-            write!(f, "{quote}")?;
-        }
-        write!(f, "..")
+        let end = match open_quote(text) {
+            _ if text.len() == self.0.len() => "",
+            None => "..",
+            Some('"') => "\"..",
+            Some(_) => "'..",
+        };
+        write!(f, "{}{end}", Escaped { text })
     }
 }
 
@@ -114,13 +74,10 @@ impl Display for CutNotation<'_> {
 pub(crate) fn front_of(bytes: &[u8], most: usize) -> &str {
     let front = valid_front(bytes.get(..most.saturating_mul(4)).unwrap_or(bytes));
     let end = front.char_indices().nth(most);
-    front
-        .get(..end.map_or(front.len(), |(at, _)| at))
-        .unwrap_or(front)
+    end.and_then(|(at, _)| front.get(..at)).unwrap_or(front)
 }
 
-/// The quote that ends the string in which this front of a notation ends. `None`: it ends in none. A
-/// quote within a comment opens no string.
+/// The quote that ends the string in which this front of a notation ends. `None`: it ends in none.
 fn open_quote(front: &str) -> Option<char> {
     let mut open = None;
     let mut is_escaped = false;
@@ -139,13 +96,12 @@ fn open_quote(front: &str) -> Option<char> {
 
 /// The longest front of the bytes that is UTF-8.
 pub(crate) fn valid_front(bytes: &[u8]) -> &str {
-    match from_utf8(bytes) {
-        Ok(text) => text,
-        Err(why) => from_utf8(slice_of(bytes, 0, why.valid_up_to())).unwrap_or(""),
-    }
+    from_utf8(bytes).unwrap_or_else(|why| {
+        from_utf8(slice_of(bytes, 0, why.valid_up_to())).unwrap_or("")
+    })
 }
 
-/// Bytes in hexadecimal, with a space between two: at most so many, and `..` where there are more.
+/// Bytes in hexadecimal with spaces between: at most so many, and `..` where there are more.
 #[derive(Clone, Copy)]
 pub(crate) struct Hex<'a>(pub(crate) &'a [u8], pub(crate) usize);
 
@@ -162,49 +118,36 @@ impl Display for Hex<'_> {
     }
 }
 
-/// The bytes around an offset in hexadecimal, and the one at the offset as `>00<`. Where the offset is
-/// the end, `><` is there.
-#[derive(Clone, Copy)]
-pub(crate) struct HexAround<'a>(pub(crate) &'a [u8], pub(crate) usize);
-
-impl Display for HexAround<'_> {
-    fn fmt<W: fmt::Write>(&self, f: &mut Formatter<W>) -> fmt::Result {
-        let HexAround(bytes, place) = *self;
-        let from = place.saturating_sub(BYTES_BEFORE);
-        let before = slice_of(bytes, from, place);
-        let dots = if from > 0 { ".. " } else { "" };
-        let gap = if before.is_empty() { "" } else { " " };
-        write!(f, "{dots}{}{gap}", Hex(before, BYTES_BEFORE))?;
-        let [byte, after @ ..] = slice_of(bytes, place, bytes.len()) else {
-            return write!(f, "><");
-        };
-        let gap = if after.is_empty() { "" } else { " " };
-        let after = Hex(after, AROUND.saturating_sub(before.len()));
-        write!(f, ">{byte:02x}<{gap}{after}")
-    }
+/// The bytes around an offset in hexadecimal, and the one there as `>00<`, or `><` at the end.
+pub(crate) fn hex_around(alloc: Global, bytes: &[u8], place: usize) -> Text {
+    let from = place.saturating_sub(BYTES_BEFORE);
+    let before = slice_of(bytes, from, place);
+    let dots = if from > 0 { ".. " } else { "" };
+    let gap = if before.is_empty() { "" } else { " " };
+    let before = format!(in alloc; "{dots}{}{gap}", Hex(before, BYTES_BEFORE))?;
+    let [byte, after @ ..] = slice_of(bytes, place, bytes.len()) else {
+        return format!(in alloc; "{before}><");
+    };
+    let gap = if after.is_empty() { "" } else { " " };
+    let after = Hex(after, AROUND.saturating_sub(place.saturating_sub(from)));
+    format!(in alloc; "{before}>{byte:02x}<{gap}{after}")
 }
 
-/// The line and the column of an offset in bytes of a text, as `1:7`. Both count from 1, the column in
-/// characters.
+/// The line and the column of an offset in a text, as `1:7`: both from 1, the column in characters.
 #[derive(Clone, Copy)]
 pub(crate) struct At<'a>(pub(crate) &'a [u8], pub(crate) usize);
 
 impl Display for At<'_> {
     fn fmt<W: fmt::Write>(&self, f: &mut Formatter<W>) -> fmt::Result {
-        let (mut line, mut column): (u64, u64) = (1, 1);
-        for byte in self.0.get(..self.1).unwrap_or(self.0).iter() {
-            match *byte {
-                b'\n' => (line, column) = (line.saturating_add(1), 1),
-                0x80..=0xbf => {}
-                _ => column = column.saturating_add(1),
-            }
-        }
-        write!(f, "{line}:{column}")
+        let before = self.0.get(..self.1).unwrap_or(self.0);
+        let line = before.iter().filter(|b| **b == b'\n').count();
+        let last = before.rsplit(|b| *b == b'\n').next().unwrap_or(before);
+        let column = last.iter().filter(|b| !matches!(**b, 0x80..=0xbf)).count();
+        write!(f, "{}:{}", line.saturating_add(1), column.saturating_add(1))
     }
 }
 
-/// The lines that say the line and the column of an offset in bytes of a text, and that line, cut around
-/// the offset, with a mark below.
+/// Lines with the line and the column of an offset of a text, and that line, cut around it, with a mark below.
 pub(crate) fn text_around(alloc: Global, text: &[u8], place: usize) -> Text {
     let before = text.get(..place).unwrap_or(text);
     let line = before.rsplit(|b| *b == b'\n').next().unwrap_or(before);
@@ -212,16 +155,17 @@ pub(crate) fn text_around(alloc: Global, text: &[u8], place: usize) -> Text {
     let from = line.char_indices().rev().take(LINE_BEFORE).last();
     let from = from.map_or(0, |(at, _)| at);
     let dots = if from > 0 { ".." } else { "" };
-    let piece = line.get(from..).unwrap_or("");
-    let piece = format!(in alloc; "{dots}{}", Escaped { text: piece })?;
+    let text_before = line.get(from..).unwrap_or("");
+    let piece = format!(in alloc; "{dots}{}", Escaped { text: text_before })?;
     let after = slice_of(text, place, text.len());
     let rest = after.split(|b| *b == b'\n' || *b == b'\r').next();
-    let rest = Cut(rest.unwrap_or(after), LINE_AFTER);
-    let at = At(text, place);
-    let mut lines = format!(in alloc; "  line  {at}\n  text  {piece}{rest}\n        ")?;
-    for _ in piece.chars() {
-        lines.push(' ')?;
-    }
-    lines.push_str("^\n")?;
-    Ok(lines)
+    let rest = rest.unwrap_or(after);
+    let front = front_of(rest, LINE_AFTER);
+    let cut = if front.len() < rest.len() { ".." } else { "" };
+    let (at, rest) = (At(text, place), Escaped { text: front });
+    let width = piece.chars().count();
+    format!(in alloc;
+        "  line  {at}\n  text  {piece}{rest}{cut}\n        {:width$}^\n",
+        ""
+    )
 }

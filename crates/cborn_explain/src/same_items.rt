@@ -3,13 +3,12 @@
 ghost use Rattle.std.specs.Prelude.{◌≡◌, [], IfOk};
 ghost use Rattle.std.specs.String.{string_bytes};
 
-use crate::byte_causes::{Shortest, plural};
-use crate::byte_heads::item_at;
-use crate::byte_walks::holds_parts;
-use crate::compared_parts::Compared;
+use crate::byte_causes::{plural, shortest_head};
+use crate::byte_walks::{end_of_item, holds_parts};
+use crate::comparisons::Compared;
 use crate::first_differences::walk_to_difference;
 use crate::items::ItemReader;
-use crate::path_lines::{Pairs, path_line};
+use crate::paths::{Pairs, path_line};
 use crate::quotes::{Hex, Text, slice_of};
 use cborn_model::{Limit, Major};
 use cborn_wire::{Argument, HeadRead, Level, LevelKind, read_head};
@@ -38,11 +37,15 @@ pub fn explain_same(
     let Some((walk, difference)) = found else {
         return Ok(String::new(alloc));
     };
-    let is_order = are_other_items(items, walk.item_place(), first.spelled, second.spelled)?;
-    let (path, at) = if is_order {
-        (difference.path, difference.place as usize)
+    let ours = items.encoded_at(first.spelled, walk.item_place())?;
+    let theirs = items.encoded_at(second.spelled, walk.item_place())?;
+    // the same items differ here only where the keys of a map come in another order
+    let is_order = matches!((&ours, &theirs), (Some(ours), Some(theirs)) if **ours != **theirs);
+    let (path, at, why) = if is_order {
+        let why = "\n  why    the keys come in another order";
+        (difference.path, difference.place as usize, why)
     } else {
-        (walk.path(alloc)?, walk.at)
+        (walk.path(alloc)?, walk.at, "")
     };
     let level = (!is_order).then_some(walk.innermost());
     let ours = item_or_break(alloc, first.spelled, at)?;
@@ -51,88 +54,55 @@ pub fn explain_same(
     let their_place = second.place(items, at, &path.steps)?;
     let our_spelling = spelling(items, level, ours, theirs)?;
     let their_spelling = spelling(items, level, theirs, ours)?;
-    let path = path_line(items, (first.spelled, &walk), &path, Pairs::Numbered)?;
-    let why = if is_order {
-        "\n  why    the keys come in another order"
-    } else {
-        ""
-    };
+    let path = path_line(items, &walk, &path, Pairs::Numbered)?;
     format!(in alloc;
         "  path   {path}\n  first  {our_place}: {our_spelling}\n  second {their_place}: {their_spelling}{why}\n"
     )
 }
 
-/// Whether two inputs have different items at a place. Of inputs that hold the same items that is so
-/// only where the keys of a map come in another order.
-fn are_other_items<'a>(
-    items: &ItemReader,
-    place: usize,
-    first: &'a [u8],
-    second: &'a [u8],
-) -> Result<bool, AllocError> {
-    let ours = items.encoded_at(first, place)?;
-    let theirs = items.encoded_at(second, place)?;
-    Ok(match (ours, theirs) {
-        (Some(ours), Some(theirs)) => *ours != *theirs,
-        _ => false,
-    })
-}
-
 /// The bytes of the item at an offset, of a chunk, or of the break that ends the chunks.
 fn item_or_break(alloc: Global, bytes: &[u8], at: usize) -> Result<&[u8], AllocError> {
-    let item = item_at(alloc, bytes, at)?;
-    Ok(if item.is_empty() {
-        slice_of(bytes, at, at.saturating_add(1))
-    } else {
-        item
-    })
+    let end = end_of_item(alloc, bytes, at)?;
+    Ok(slice_of(bytes, at, end.max(at.saturating_add(1))))
 }
 
-/// The bytes of an item, and how they encode it, which the other input encodes as `other`. `level`
-/// is what the item is in. `None`: it is a key, and the other input has another key there.
+/// The bytes of an item, and what its head does that the head of `other`, the same item in the other input,
+/// doesn't. `level` is what it is in. `None`: it is a key, and the other input has another key there.
 fn spelling(items: &ItemReader, level: Option<Level>, item: &[u8], other: &[u8]) -> Text {
     let (alloc, bytes) = (items.alloc, Hex(item, ITEM));
     let Some(level) = level else {
         let key = items.notation(item)?;
         return format!(in alloc; "{bytes}, the key {key}");
     };
-    let mut text = format!(in alloc; "{bytes}")?;
-    push_how(&mut text, level, item, other)?;
-    Ok(text)
-}
-
-/// Writes what the head of an item does that the head of the same item in the other input doesn't.
-/// `level` is what it is in.
-fn push_how(out: &mut String, level: Level, item: &[u8], other: &[u8]) -> Result<(), AllocError> {
     let (HeadRead::Full(head, _), HeadRead::Full(other, _)) = (read_head(item), read_head(other))
     else {
-        return Ok(());
+        return format!(in alloc; "{bytes}");
     };
     let major = head.major_type();
-    match (head.argument, other.argument) {
-        (Argument::Endless, _) if major == Major::Other => out.push_str(", the end of the chunks"),
-        (Argument::Endless, _) => out.push_str(", an indefinite length"),
+    let how = match (head.argument, other.argument) {
+        (Argument::Endless, _) if major == Major::Other => "the end of the chunks",
+        (Argument::Endless, _) => "an indefinite length",
         (Argument::Given(_, n), theirs) if is_other_length(level, n, theirs) => {
-            let what = match level.kind {
-                LevelKind::Tag => "bignum",
-                _ => "chunk",
+            let what = if level.kind == LevelKind::Tag {
+                "bignum"
+            } else {
+                "chunk"
             };
-            write!(out, ", a {what} of {n} byte{}", plural(n))
+            return format!(in alloc; "{bytes}, a {what} of {n} byte{}", plural(n));
         }
-        _ if major == Major::Tag && other.major_type() != Major::Tag => {
-            out.push_str(", a bignum that could be an integer")
-        }
+        _ if major == Major::Tag && other.major_type() != Major::Tag =>
+            "a bignum that could be an integer",
         (Argument::Given(width, n), _) if !width.is_shortest_for(n) => {
-            let short = Shortest(major, n);
-            write!(out, ", a long head: {short} is the shortest")
+            let short = shortest_head(alloc, major, n)?;
+            return format!(in alloc; "{bytes}, a long head: {short} is the shortest");
         }
-        (_, Argument::Endless) => out.push_str(", a definite length"),
-        _ => out.push_str(", the shortest head"),
-    }
+        (_, Argument::Endless) => "a definite length",
+        _ => "the shortest head",
+    };
+    format!(in alloc; "{bytes}, {how}")
 }
 
-/// Whether a string of `n` bytes is part of a longer string or a bignum in which the other input has
-/// a string of another length, or the end.
+/// Whether a string of `n` bytes is part of one, or of a bignum, of which the other input has other parts.
 fn is_other_length(level: Level, n: u64, other: Argument) -> bool {
     match other {
         Argument::Given(_, m) => holds_parts(level) && n != m,

@@ -3,27 +3,13 @@
 use crate::byte_causes::too_deep;
 use crate::faults::count_sentence;
 use crate::items::ItemReader;
-use crate::quotes::{At, Cut, CutNotation, Escaped, Text, front_of, slice_of};
-use crate::text_keys::{earlier_key, key_at};
-use crate::text_spots::indicator_at;
+use crate::quotes::{At, CutNotation, Escaped, Text, front_of, slice_of};
+use crate::text_spots::{earlier_key, indicator_at, key_at};
 use crate::text_walks::{Bracket, LastToken, NotationText, TextWalk};
 use cborn_edn::{EdnFault, EdnReason};
 use cborn_engine::{CountFault, EngineFault};
 use cborn_judge::{Invalid, InvalidReason};
 use cborn_lex::{LexFault, LexReason, Profile, code_at, is_low};
-use std::fmt::{self, Display, Formatter};
-
-/// How many characters of a word, a number or a key are written.
-const WORD: usize = 40;
-
-const EMPTY_COMMENT: &str = "comments are / .. /, and the // before this is an empty one";
-
-const BAD_TEXT: &str = "a text string is UTF-8, and this one isn't";
-
-const HASH: &str = "comments from # to the end of a line are read with notation-2 alone";
-
-const BAD_BIGNUM: &str =
-    "tag 2 or 3 makes an integer of a byte string, and here it encloses another item";
 
 /// A text that is refused, and where.
 #[derive(Clone, Copy)]
@@ -39,20 +25,6 @@ pub(crate) struct RefusedText<'a> {
     pub(crate) walk: &'a TextWalk<'a>,
 }
 
-/// The first character of some bytes, in quotes; or that they end here.
-#[derive(Clone, Copy)]
-struct Character<'a>(&'a [u8]);
-
-impl Display for Character<'_> {
-    fn fmt<W: fmt::Write>(&self, f: &mut Formatter<W>) -> fmt::Result {
-        let text = front_of(self.0, 1);
-        if text.is_empty() {
-            return write!(f, "the end");
-        }
-        write!(f, "'{}'", Escaped { text })
-    }
-}
-
 impl<'a> RefusedText<'a> {
     /// The sentence for a fault. Empty where it is none of the content of a text.
     pub(crate) fn fault(&self, fault: CountFault) -> Text {
@@ -60,22 +32,26 @@ impl<'a> RefusedText<'a> {
         let CountFault::Engine(why) = fault else {
             return String::from_str(alloc, count_sentence(fault));
         };
-        match why {
+        let sentence = match why {
             EngineFault::TextInput(_) => {
                 let byte = self.rest(self.place).first().copied().unwrap_or(0);
-                format!(in alloc;
+                return format!(in alloc;
                     "a text is UTF-8, and the byte {byte:02x} here begins no character or is cut off"
-                )
+                );
             }
-            EngineFault::Edn(EdnFault::Lex(LexFault::Refused { reason, .. })) => self.token(reason),
-            EngineFault::Edn(EdnFault::Refused { reason, .. }) => self.notation(reason),
+            EngineFault::Edn(EdnFault::Lex(LexFault::Refused { reason, .. })) => return self.token(
+                reason,
+            ),
+            EngineFault::Edn(EdnFault::Refused { reason, .. }) => return self.notation(reason),
             EngineFault::Invalid(Invalid::Refused { reason, .. }) => match reason {
-                InvalidReason::DuplicateKey => self.duplicate_key(),
-                InvalidReason::BadBignum => String::from_str(alloc, BAD_BIGNUM),
-                InvalidReason::NotUtf8 => String::from_str(alloc, BAD_TEXT),
+                InvalidReason::DuplicateKey => return self.duplicate_key(),
+                InvalidReason::BadBignum =>
+                    "tag 2 or 3 makes an integer of a byte string, and here it encloses another item",
+                InvalidReason::NotUtf8 => "a text string is UTF-8, and this one isn't",
             },
-            _ => Ok(String::new(alloc)),
-        }
+            _ => "",
+        };
+        String::from_str(alloc, sentence)
     }
 
     /// The text from an offset on.
@@ -89,21 +65,39 @@ impl<'a> RefusedText<'a> {
     }
 
     /// The letters, digits, points, underscores and minus signs in a row from an offset on.
-    fn word(&self, place: usize) -> Cut<'a> {
+    fn word(&self, place: usize) -> &'a [u8] {
         let rest = self.rest(place);
-        Cut(rest.split(|b| !is_word(*b)).next().unwrap_or(rest), WORD)
+        rest.split(|b| !is_word(*b)).next().unwrap_or(rest)
+    }
+
+    /// The character at fault in quotes, or that the text ends there.
+    fn character(&self) -> Text {
+        let text = front_of(self.rest(self.spot), 1);
+        if text.is_empty() {
+            return String::from_str(self.items.alloc, "the end");
+        }
+        format!(in self.items.alloc; "'{}'", Escaped { text })
     }
 
     /// Why a token is wrong.
     fn token(&self, reason: LexReason) -> Text {
         let alloc = self.items.alloc;
-        let (c, at) = (self.character(), self.at(self.spot));
-        let (token, word) = (self.word(self.place), self.word(self.spot));
-        let is_quote = self.rest(self.spot).starts_with(b"'");
+        let (c, at) = (self.character()?, self.at(self.spot));
+        let (token, word) = (self.word(self.place), CutNotation(self.word(self.spot)));
+        let number = CutNotation(token.split(|b| *b == b'_').next().unwrap_or(token));
+        let token = CutNotation(token);
+        let first = self.rest(self.spot).first().copied().unwrap_or(0);
+        let is_quote = first == b'\'';
         let sentence = match reason {
             LexReason::UnexpectedCharacter | LexReason::UnknownPrefix if self.is_after_slashes() =>
-                EMPTY_COMMENT,
-            LexReason::UnexpectedCharacter => return self.unexpected_character(),
+                "comments are / .. /, and the // before this is an empty one",
+            LexReason::UnexpectedCharacter if first == b'#' && self.input.profile == Profile::One =>
+                "comments from # to the end of a line are read with notation-2 alone",
+            LexReason::UnexpectedCharacter if first.is_ascii_alphabetic() =>
+                return format!(in alloc;
+                    "'{token}' is no word of the notation: false, true, null and undefined are, and simple("
+                ),
+            LexReason::UnexpectedCharacter => return format!(in alloc; "{c} begins no token"),
             LexReason::UnclosedString => "the string that begins here has no quote that ends it",
             LexReason::UnclosedComment => "the comment that begins here has no slash that ends it",
             LexReason::BadEscape => return self.bad_escape(),
@@ -120,7 +114,12 @@ impl<'a> RefusedText<'a> {
             LexReason::UnknownPrefix => return format!(in alloc;
                 "'{token}' is no prefix of a string: h is, for hexadecimal, and b64, for base64"
             ),
-            LexReason::BadNumber => return self.bad_number(),
+            LexReason::BadNumber if self.spot > self.place => return format!(in alloc;
+                "'{number}' is no number: {c} at {at} is no digit of it"
+            ),
+            LexReason::BadNumber => return format!(in alloc;
+                "'{number}' is no number: it lacks digits, or begins with a 0 that it doesn't need"
+            ),
             LexReason::NumberTooLarge =>
                 "a number has at most 128 bits: 340282366920938463463374607431768211455 is the greatest",
             LexReason::BadIndicator => return format!(in alloc;
@@ -131,11 +130,6 @@ impl<'a> RefusedText<'a> {
             ),
         };
         String::from_str(alloc, sentence)
-    }
-
-    /// The character at fault.
-    fn character(&self) -> Character<'a> {
-        Character(self.rest(self.spot))
     }
 
     /// Whether `//` comes before the place, and white space of the same line.
@@ -149,7 +143,7 @@ impl<'a> RefusedText<'a> {
     /// What is wrong with an escape, or with a character that has to be escaped.
     fn bad_escape(&self) -> Text {
         let alloc = self.items.alloc;
-        let (c, at) = (self.character(), self.at(self.spot));
+        let (c, at) = (self.character()?, self.at(self.spot));
         match self.rest(self.spot) {
             [b'\\', b'u', rest @ ..] => match code_at(rest) {
                 Some(unit) if is_low(unit) => format!(in alloc;
@@ -163,33 +157,6 @@ impl<'a> RefusedText<'a> {
             [b'\\', ..] => format!(in alloc; "{c} at {at} begins no escape of JSON"),
             _ => format!(in alloc; "{c} at {at} is a control character, which has to be escaped"),
         }
-    }
-
-    fn unexpected_character(&self) -> Text {
-        let alloc = self.items.alloc;
-        match self.rest(self.place).first() {
-            Some(b'#') if self.input.profile == Profile::One => String::from_str(alloc, HASH),
-            Some(byte) if byte.is_ascii_alphabetic() => {
-                let word = self.word(self.place);
-                format!(in alloc;
-                    "'{word}' is no word of the notation: false, true, null and undefined are, and simple("
-                )
-            }
-            _ => format!(in alloc; "{} begins no token", self.character()),
-        }
-    }
-
-    fn bad_number(&self) -> Text {
-        let alloc = self.items.alloc;
-        let word = self.word(self.place).0;
-        let number = Cut(word.split(|b| *b == b'_').next().unwrap_or(word), WORD);
-        let (c, at) = (self.character(), self.at(self.spot));
-        if self.spot > self.place {
-            return format!(in alloc; "'{number}' is no number: {c} at {at} is no digit of it");
-        }
-        format!(in alloc;
-            "'{number}' is no number: it lacks digits, or begins with a 0 that it doesn't need"
-        )
     }
 
     /// Why the tokens are a syntax error, or notate no item.
@@ -224,8 +191,7 @@ impl<'a> RefusedText<'a> {
         String::from_str(alloc, sentence)
     }
 
-    /// Whether the token at the place is a number. An integer beyond 64 bits adds a level, since it is
-    /// encoded as a tag of a byte string.
+    /// Whether the token at the place is a number. One beyond 64 bits is a level, as a tag of a byte string.
     fn is_at_number(&self) -> bool {
         matches!(self.rest(self.place), [b'-' | b'0'..=b'9', ..])
     }
@@ -248,16 +214,10 @@ impl<'a> RefusedText<'a> {
         }
     }
 
-    /// Whether the encoding indicator of the string, the number or the tag that begins at the place,
-    /// or of the `>>` there, is `_` alone. True too where it has none.
+    /// Whether the token at the place has the encoding indicator `_` alone, or none.
     fn is_indefinite(&self) -> bool {
         let token = self.rest(self.place);
-        let at = if token.starts_with(b">>") {
-            2
-        } else {
-            indicator_at(token)
-        };
-        match slice_of(token, at, token.len()) {
+        match slice_of(token, indicator_at(token), token.len()) {
             [b'_', next, ..] => !next.is_ascii_digit(),
             _ => true,
         }
@@ -279,8 +239,7 @@ impl<'a> RefusedText<'a> {
     /// What may follow the last token: a piece of the string that it is, or what else.
     fn allowed(&self) -> (&'static str, &'static str) {
         let last = self.walk.last;
-        let is_piece = matches!(last, LastToken::Piece);
-        let is_whole = is_piece || matches!(last, LastToken::Item);
+        let is_whole = matches!(last, LastToken::Piece | LastToken::Item);
         let is_first = matches!(last, LastToken::Opening);
         let may_end = is_first || !is_whole && self.input.profile == Profile::Two;
         let words = match self.walk.open.last() {
@@ -304,16 +263,13 @@ impl<'a> RefusedText<'a> {
                 _ => "an item",
             },
         };
-        let piece = if is_piece {
-            "a further piece of the string, or "
-        } else {
-            ""
-        };
-        (piece, words)
+        match last {
+            LastToken::Piece => ("a further piece of the string, or ", words),
+            _ => ("", words),
+        }
     }
 
-    /// What is said where a bracket is closed at the place after a trailing comma, which profile 2 alone
-    /// allows.
+    /// What is said where a bracket is closed after a trailing comma, which profile 2 alone allows.
     fn note_on_comma(&self) -> &'static str {
         let is_closed = match (self.walk.open.last(), self.rest(self.place)) {
             (Some(open), [b']', ..]) => matches!(open.bracket, Bracket::Array),
@@ -331,20 +287,17 @@ impl<'a> RefusedText<'a> {
     /// Which key the key at the place repeats.
     fn duplicate_key(&self) -> Text {
         let alloc = self.items.alloc;
-        let key = CutNotation(key_at(alloc, self.input, self.place)?);
-        let found = match self.walk.open.last() {
-            Some(open) => earlier_key(self.items, self.input, open.place, self.place)?,
-            None => None,
+        let key = key_at(alloc, self.input, self.place)?;
+        let map = self.walk.open.last().map_or(0, |open| open.place);
+        let found = earlier_key(self.items, self.input, (map, self.place), key)?;
+        let key = CutNotation(key);
+        let Some(place) = found else {
+            return format!(in alloc; "the key {key} is the same as an earlier key of this map");
         };
-        match found {
-            Some(place) => {
-                let at = self.at(place);
-                format!(in alloc;
-                    "the key {key} is the same as the key at {at} (offset {place}) of this map"
-                )
-            }
-            None => format!(in alloc; "the key {key} is the same as an earlier key of this map"),
-        }
+        let at = self.at(place);
+        format!(in alloc;
+            "the key {key} is the same as the key at {at} (offset {place}) of this map"
+        )
     }
 }
 

@@ -6,9 +6,8 @@ use cborn_engine::Kind as Format;
 use cborn_lex::{BareToken, Kind, LexFault, Profile, next_token};
 use std::alloc::{AllocError, Global};
 
-/// How many open brackets a walk keeps at most. A fault of the grammar or of what a text means is inside
-/// fewer: those of 1,024 levels, and of a string or a simple value. A token that is wrong may be inside
-/// more, since all tokens are read before any level is counted. Of those it keeps the number alone.
+/// How many open brackets a walk keeps: those of 1,024 levels, and of a string or a simple value. A wrong
+/// token may be inside more, since all tokens are read before levels are counted: those are counted alone.
 const MOST_OPEN: usize = 1026;
 
 /// A text of the notation, and the profile that it is read under.
@@ -51,11 +50,9 @@ pub(crate) struct OpenBracket {
     pub(crate) bracket: Bracket,
     /// The offset in bytes of its token.
     pub(crate) place: usize,
-    /// How many of its parts a comma or a colon has ended. A part is an item, a chunk, or a key or a
-    /// value of a map.
+    /// How many of its parts a comma or a colon has ended, each a key, a value or another item or chunk.
     pub(crate) parts: u64,
-    /// In a map, the offsets in bytes at which the last key begins and ends. Until its colon is read,
-    /// both are where it begins. Where there is no key, both are `place`.
+    /// Where the last key of a map begins, and where it ends, once its colon is read. Both else `place`.
     pub(crate) key: (usize, usize),
     /// A comma or a colon came where none may, so that its parts aren't known.
     pub(crate) is_lost: bool,
@@ -113,8 +110,7 @@ pub(crate) struct TextWalk<'a> {
     content: Vec<u8>,
 }
 
-/// Walks over a text, and stops before the first token that ends after the offset `place`, or that is
-/// wrong. `place` is an offset in bytes from the start of the text.
+/// A walk to before the first token that ends after the offset `place` of a text, or that is wrong.
 pub(crate) fn walk_text(
     alloc: Global,
     input: NotationText<'_>,
@@ -145,8 +141,7 @@ impl<'a> TextWalk<'a> {
         }
     }
 
-    /// Goes on past the next token, and gives `true`. `false`: the token ends after the offset `place`
-    /// or is wrong, or there is none.
+    /// Goes on past the next token. `false`: it ends after the offset `place` or is wrong, or there is none.
     pub(crate) fn take_next(&mut self, place: usize) -> Result<bool, AllocError> {
         let (alloc, profile, text) = (self.alloc, self.profile, self.text);
         if self.stop > text.len() {
@@ -186,16 +181,12 @@ impl<'a> TextWalk<'a> {
         Ok(())
     }
 
-    /// Goes on past a token that begins an item or a piece of it, and keeps where, if it is the first of a
-    /// key.
+    /// Goes on past a token that begins an item or a piece of it, and keeps where a key begins.
     fn begin_part(&mut self, token: LastToken, start: usize) {
         let is_first = matches!(self.last, LastToken::Opening | LastToken::Separator);
         self.last = token;
-        if self.beyond > 0 {
-            return;
-        }
         if let Some(open) = self.open.last_mut() {
-            if is_first && open.is_at_key() {
+            if self.beyond == 0 && is_first && open.is_at_key() {
                 open.key = (start, start);
             }
         }
@@ -218,11 +209,10 @@ impl<'a> TextWalk<'a> {
     }
 
     fn end(&mut self, last: LastToken) {
-        if self.beyond > 0 {
-            self.beyond = self.beyond.saturating_sub(1);
-        } else {
+        if self.beyond == 0 {
             let _ = self.open.pop();
         }
+        self.beyond = self.beyond.saturating_sub(1);
         self.last = last;
     }
 
@@ -247,15 +237,12 @@ impl<'a> TextWalk<'a> {
         }
     }
 
-    /// The offsets in bytes at which the key before the last token, a colon, begins and ends, if
-    /// the bracket of its map is the only open one; else `None`.
+    /// Where the key before the last token, a colon, begins and ends, if the only open bracket is its map's.
     pub(crate) fn key_before_colon(&self) -> Option<(usize, usize)> {
-        match self.open.as_slice() {
-            [open]
-                if matches!(open.bracket, Bracket::Map)
-                    && open.parts % 2 == 1
-                    && matches!(self.last, LastToken::Separator) => { Some(open.key) }
-            _ => None,
-        }
+        let [open] = self.open.as_slice() else {
+            return None;
+        };
+        let is_value = matches!(open.bracket, Bracket::Map) && open.parts % 2 == 1;
+        (is_value && matches!(self.last, LastToken::Separator)).then_some(open.key)
     }
 }

@@ -65,12 +65,12 @@ pub use Rattle.cborn_judge.specs.declared.encoders.Encodings.{Encodings}
 pub use Rattle.cborn_judge.specs.declared.encoders.OpenString.{OpenString}
 pub use Rattle.cborn_judge.specs.declared.faults.InvalidReason.{InvalidReason}
 pub use Rattle.cborn_judge.specs.declared.faults.InvalidReason.TheVariants.{BadBignum, DuplicateKey, NotUtf8}
-pub use Rattle.cborn_judge.specs.declared.flaws.Flaw.{Flaw as SomeFlaw}
+pub use Rattle.cborn_judge.specs.declared.faults.Flaw.{Flaw as SomeFlaw}
 pub use Rattle.cborn_judge.specs.declared.levels.Container.{Container}
 pub use Rattle.cborn_judge.specs.declared.levels.Level.{Level}
 pub use Rattle.cborn_judge.specs.devices.Building.{IsBignumItem, IsItemOf, IsPairOf}
-pub use Rattle.cborn_judge.specs.devices.Encoders.{BeginsAs, EndsWell, HasEnded, IsBignumFound, IsChunk, IsChunkContent, IsContent, IsHeld, IsStringFront, StandsAs, StandsIn, Written, kept, kind_major}
-pub use Rattle.cborn_judge.specs.devices.Encoding.{Amid, AreArranged, AreEncodedAs, AreFilled, AreMarked, AreRows, Coded, Contains, Falls, Finds, FindsDescent, HasFall, HasSameKeys, Inner, IsEncodedAs, IsFront, IsHeadFront, IsMarked, IsOpening, IsSameKey, IsSound, Mark, MeansNothing, Opens, OwnDefect, OwnFlaw, Row, RowDescent, RowRepeat, Stands, after, after_items, are_chunks, filled_keys, has_key, is_chunks, is_odd, row_entries, row_entry}
+pub use Rattle.cborn_judge.specs.devices.Encoders.{EndsWell, HasEnded, IsBignumFound, IsChunk, IsChunkContent, IsContent, IsHeld, IsStringFront, StandsAs, StandsIn, Written, kept}
+pub use Rattle.cborn_judge.specs.devices.Encoding.{Amid, AreArranged, AreEncodedAs, AreFilled, AreMarked, AreRows, Coded, Contains, Falls, Finds, FindsDescent, HasFall, HasSameKeys, Inner, IsEncodedAs, IsFront, IsHeadFront, IsMarked, IsOpening, IsSameKey, IsSound, Mark, MeansNothing, Opens, OwnDefect, OwnFlaw, Row, RowDescent, RowRepeat, Stands, after, after_items, are_chunks, filled_keys, has_key, head_of, is_chunks, is_odd, kind_major, opened, row_entries, row_entry}
 pub use Rattle.cborn_judge.specs.devices.Hints.{Tells, front_of, hint_of, length_hint}
 pub use Rattle.cborn_judge.specs.devices.Marks.{AreAllHinted, AreHinted, AreHintedBy, is_above, AreSorted, FallAt, FallsIn, IsFall, IsTie, Keyed, Met, TiesIn, all_keyed, all_marks, between, key_of, keyed, last_filled, last_key, mark_of, mark_order, marks_of, narrow_of, pair_of, remembered, row_of}
 pub use Rattle.cborn_judge.specs.shared.Checked.{DefectIn, DefectInAll, DescentAt, IsEarliestDefect, LooseAt, SizeAt}

@@ -7,3 +7,4 @@ pub mod SameKeys
 pub mod Encoded
 pub mod FirstDefect
 pub mod Encoding
+pub mod Following

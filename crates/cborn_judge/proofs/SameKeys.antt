@@ -61,9 +61,7 @@ module _ {X : Type 0} (order : List ℕ → List ℕ → Ordering) (laws : IsKey
   earlier_again [] w z s h i j e l = absurd i
   earlier_again (x ∷ xs) w z s h (inl i) (inl j) e l = let f : position w ≡ position z = ap position (i ∙ sym j) in absurd (omega arith)
   earlier_again (x ∷ xs) w z s h (inl i) (inr j) e l = inl (j, ap bytes (sym i) ∙ e)
-  earlier_again (x ∷ xs) w z s h (inr i) (inl j) e l =
-      let k = h.0 w i (ap (λ y. counts (bytes y)) (sym j) ∙ s) in
-      let f : position z ≡ position x = ap position j in absurd (omega arith)
+  earlier_again (x ∷ xs) w z s h (inr i) (inl j) e l = grind arith
   earlier_again (x ∷ xs) w z s h (inr i) (inr j) e l = inr (earlier_again xs w z s h.1 i j e l)
 
   -- x comes before y in the order, strictly if it counts
@@ -90,14 +88,7 @@ module _ {X : Type 0} (order : List ℕ → List ℕ → Ordering) (laws : IsKey
   between x y z h1 h2 h3 h4 = grind (arith, never_both, not_less_itself)
 
   tied_earlier : (xs : List X) (z : X) → counts (bytes z) ≡ true → InOrder xs → IsTied bytes xs z → HasEarlier xs z
-  tied_earlier (x ∷ y ∷ ys) z s o (inl t) =
-      elim o.0 [
-        | inl l ↦ absurd (not_less_itself (bytes x) (bytes y) t.1 l)
-        | inr l ↦
-            let f : position y ≡ position z = ap position t.0 in
-            let k = l.1 (ap counts (t.1 ∙ ap bytes t.0) ∙ s) in
-            (x, inl refl, inr (inl (sym t.0)), t.1 ∙ ap bytes t.0, (omega arith))
-      ]
+  tied_earlier (x ∷ y ∷ ys) z s o (inl t) = grind (arith, not_less_itself)
   tied_earlier (x ∷ y ∷ ys) z s o (inr t) = let u = tied_earlier (y ∷ ys) z s o.1 t in (u.0, inr u.1, inr u.2, u.3, u.4)
   tied_earlier _ z s o t = absurd t
 

@@ -19,7 +19,7 @@ pub use Rattle.cborn_model.specs.Tree.{ByteChunks, Bytes, Entries, Items, Nint, 
 pub use Rattle.cborn_model.specs.Valid.{AreProper, IsProper, value_depth}
 pub use Rattle.cborn_model.specs.Value.{Same, Value, Values}
 pub use Rattle.cborn_model.specs.declared.heads.Major.{Major}
-pub use Rattle.cborn_model.specs.declared.heads.Major.TheVariants.{Array, ByteString, Map, Tag, TextString}
+pub use Rattle.cborn_model.specs.declared.heads.Major.TheVariants.{Array, ByteString, Map, Other, Tag, TextString}
 pub use Rattle.cborn_model.specs.declared.heads.Size.{Size}
 pub use Rattle.cborn_model.specs.declared.heads.Size.TheVariants.{Endless, Fixed}
 pub use Rattle.cborn_model.specs.declared.heads.Width.{Width}

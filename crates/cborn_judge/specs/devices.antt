@@ -3,3 +3,4 @@ pub mod Encoding
 pub mod Hints
 pub mod Marks
 pub mod Encoders
+pub mod Following

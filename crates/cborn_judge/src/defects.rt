@@ -40,12 +40,7 @@ impl DefectReason {
     fn number(self) -> u8
         ensures { result ≡ defect_rank self }
     {
-        match self {
-            DefectReason::LongHead => 1,
-            DefectReason::EndlessLength => 2,
-            DefectReason::LooseBignum => 3,
-            DefectReason::KeyOrder => 4,
-        }
+        self as u8 + 1
     }
 }
 

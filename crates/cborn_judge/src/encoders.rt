@@ -1,31 +1,25 @@
 //! The visitor [`Encoder`], which encodes items, and finds their first flaw and their first defect.
 
-ghost use Rattle.std.specs.Prelude.{◌≡◌, ◌++◌, ◌↔◌, ℕ, List, [], length, take, drop, Option, None, Some, true, false, IfOk, IfErr, OnOk, IsTrue};
+ghost use Rattle.std.specs.Prelude.{◌≡◌, ◌++◌, ◌↔◌, ℕ, List, [], length, Option, None, Some, true, false, IfOk, IfErr, OnOk, IsTrue};
 ghost use Rattle.cborn_model.specs.Tree as tree;
-ghost use Rattle.cborn_model.specs.Tree.{Tree, trees};
-ghost use Rattle.cborn_model.specs.declared.heads.Width.{Width as Wide};
-ghost use Rattle.cborn_model.specs.declared.visitors.StringKind.{StringKind as Kind};
-ghost use Rattle.cborn_model.specs.Partial.{Partial, top, put, no_part, part, IsFree, Ends, string_tree};
-ghost use Rattle.cborn_model.specs.shared.Runs.{puts, InArray, AtKey};
-ghost use Rattle.std.specs.declared.cmp.Ordering.{Ordering};
+ghost use Rattle.cborn_judge.specs.Common.{Ordering, Tree, trees, Width as Wide, StringKind as Kind, Partial, top, put, no_part, part, IsFree, string_tree, IsFirst};
 ghost use Rattle.cborn_judge.specs.Reasons.{flaw_rank};
-ghost use Rattle.cborn_model.specs.First.{IsFirst};
 ghost use Rattle.cborn_judge.specs.Departures.{FindsDefect};
 ghost use Rattle.cborn_judge.specs.shared.Checked.{DefectInAll};
 ghost use Rattle.cborn_judge.specs.shared.Judged.{FlawIn, FindsFlaw};
 ghost use Rattle.cborn_judge.specs.devices.Marks.{marks_of};
-ghost use Rattle.cborn_judge.specs.devices.Encoding.{is_chunks, IsMarked, Coded, IsEncodedAs, AreEncodedAs, Finds};
-ghost use Rattle.cborn_judge.specs.devices.Encoders.{kept, IsHeld, StandsIn, StandsAs, Written, IsChunk, IsContent, IsEndedString, IsStringFront, kind_major};
+ghost use Rattle.cborn_judge.specs.devices.Encoding.{kind_major, is_chunks, IsMarked, Coded, AreEncodedAs, Finds};
+ghost use Rattle.cborn_judge.specs.devices.Encoders.{kept, IsHeld, StandsIn, StandsAs, Written, IsContent, IsEndedString, IsStringFront};
 
 use crate::defects::Defect;
-use crate::faults::InvalidReason;
-use crate::flaws::{Flaw, keep, text_flaw};
+use crate::faults::{Flaw, InvalidReason, keep, text_flaw};
 use crate::levels::{Container, Level};
+use crate::marks::from_index;
 use crate::pairs::Pairs;
 use crate::spellings::head_defect;
 use crate::strings::{is_content, is_text};
 use cborn_det::{integer_major, put_head};
-use cborn_model::{KeyOrder, LeafPair, Major, Size, StringKind, Visitor, Width};
+use cborn_model::{KeyOrder, LeafPair, Major, Result, Size, StringKind, Visitor, Width};
 use std::alloc::{AllocError, Global};
 use std::marker::PhantomData;
 
@@ -78,24 +72,9 @@ pub struct Encoder<O> {
 }
 
 impl Encodings {
-    /// Those of no node, in the input. They are written to the empty buffer `out`.
-    fn new(alloc: Global, out: Vec<u8>) -> Encodings
-        requires { out.items ≡ [] }
-        ensures { (order : List ℕ → List ℕ → Ordering) → StandsIn order result (top []) }
-    {
-        Encodings {
-            out,
-            innermost: Level::new(Container::Input, 0, 0, 0),
-            outer: Vec::new(alloc),
-            pairs: Pairs::new(alloc),
-            spare: Vec::new(alloc),
-        }
-    }
-
-    /// Counts a whole node in the innermost container. Its encoding stands in the buffer from `start`
-    /// on; nothing stands there if it means nothing.
+    /// Counts a whole node, whose encoding stands from `start` on; none does if it means nothing.
     #[inline(always)]
-    pub(crate) fn put(&mut self, place: u64, start: usize) -> Result<(), AllocError>
+    pub(crate) fn put(&mut self, place: u64, start: usize) -> Result<()>
         ensures held { OnOk result ((order : List ℕ → List ℕ → Ordering) (f : Partial) (t : Tree) (y x : List ℕ) → IsFree f → tree.place t ≡ place → self.old.out.items ≡ y ++ x → start ≡ length y → Coded order t x → StandsAs order self.old f y → StandsIn order self.new (put f t)) }
     {
         let end = self.out.len();
@@ -104,42 +83,9 @@ impl Encodings {
         self.mark(has_key, place, start, end)
     }
 
-    /// Counts whole items of an array, whose encodings are `spelled`, and writes these.
+    /// Marks what stands from `start` to `end`, in a map: the value, if it `has_key`, else the key.
     #[inline(always)]
-    fn put_items(&mut self, count: u64, spelled: &[u8]) -> Result<(), AllocError>
-        ensures held { OnOk result ((order : List ℕ → List ℕ → Ordering) (f : Partial) (ts : List Tree) → InArray f → length ts ≡ count → AreEncodedAs order ts spelled.now → StandsIn order self.old f → StandsIn order self.new (puts f ts)) }
-    {
-        self.out.extend_from_slice(spelled)?;
-        self.innermost.add_items(count);
-        Ok(())
-    }
-
-    /// Counts a whole key, which is at the offset `place`, and its value. Their encodings are
-    /// `spelled`, of which the first `key_len` bytes are those of the key. Writes these.
-    #[inline(always)]
-    fn put_pair(&mut self, place: u64, key_len: usize, spelled: &[u8]) -> Result<(), AllocError>
-        ensures held { OnOk result ((order : List ℕ → List ℕ → Ordering) (f : Partial) (k v : Tree) → AtKey f → tree.place k ≡ place → IsEncodedAs order k (take key_len spelled.now) → IsEncodedAs order v (drop key_len spelled.now) → StandsIn order self.old f → StandsIn order self.new (put (put f k) v)) }
-    {
-        let start = self.out.len();
-        self.out.extend_from_slice(spelled)?;
-        let end = self.out.len();
-        let middle = start.saturating_add(key_len);
-        self.pairs.push_pair(place, start, middle, end)?;
-        self.innermost.add(false);
-        self.innermost.add(false);
-        Ok(())
-    }
-
-    /// Marks what stands in the buffer from `start` to `end`, if the innermost container is a map: the
-    /// value, if it `has_key`, else the key.
-    #[inline(always)]
-    fn mark(
-        &mut self,
-        has_key: bool,
-        place: u64,
-        start: usize,
-        end: usize,
-    ) -> Result<(), AllocError>
+    fn mark(&mut self, has_key: bool, place: u64, start: usize, end: usize) -> Result<()>
         ensures marked { OnOk result (IsMarked self.old.innermost.container has_key (place, start, end, end) (marks_of self.old.pairs) (marks_of self.new.pairs)) }
         ensures kept { (self.new.out ≡ self.old.out) × (self.new.innermost ≡ self.old.innermost) × (self.new.outer ≡ self.old.outer) }
     {
@@ -150,18 +96,9 @@ impl Encodings {
         }
     }
 
-    /// Counts a string of a string of indefinite length. It means nothing if it is `flawed`.
+    /// Writes the head of a string, unless it is one of a string of indefinite length.
     #[inline(always)]
-    pub(crate) fn put_chunk(&mut self, flawed: bool)
-        ensures held { (order : List ℕ → List ℕ → Ordering) (f : Partial) (t : Tree) (y x : List ℕ) → self.old.out.items ≡ y ++ x → IsChunk f t flawed x → StandsAs order self.old f y → StandsIn order self.new (put f t) }
-    {
-        self.innermost.add(flawed);
-    }
-
-    /// Writes what stands before the content of a string: its head, unless it is one of a string of
-    /// indefinite length.
-    #[inline(always)]
-    fn push_string_front(&mut self, kind: StringKind, len: u64) -> Result<(), AllocError>
+    fn push_string_front(&mut self, kind: StringKind, len: u64) -> Result<()>
         ensures front { OnOk result ((h : List ℕ) × IsStringFront (is_chunks self.old.innermost) kind len h × (self.new.out.items ≡ self.old.out.items ++ h)) }
         ensures rest { (self.new.innermost ≡ self.old.innermost) × (self.new.outer ≡ self.old.outer) × (self.new.pairs ≡ self.old.pairs) }
     {
@@ -169,28 +106,6 @@ impl Encodings {
             return Ok(());
         }
         put_head(major_of(kind), len, &mut self.out)
-    }
-
-    /// Whether the string whose content was written may hold it.
-    #[inline(always)]
-    pub(crate) fn is_good(&self, string: OpenString) -> bool
-        ensures { (y x : List ℕ) → self.now.out.items ≡ y ++ x → string.content ≡ length y → IsTrue result ↔ IsContent string.kind x }
-    {
-        is_content(string.kind, written_from(string.content, &self.out))
-    }
-
-    /// Counts a string whose content was written. Nothing of it is left in the buffer unless it is
-    /// good.
-    #[inline(always)]
-    pub(crate) fn put_string(&mut self, string: OpenString, is_good: bool) -> Result<(), AllocError>
-        ensures held { OnOk result ((order : List ℕ → List ℕ → Ordering) (f : Partial) (y h x : List ℕ) → IsTrue is_good ↔ IsContent string.kind x → IsEndedString order self.old string f y h x → StandsIn order self.new (put f (string_tree string.place string.kind string.width x))) }
-    {
-        self.cut(string.start, is_good);
-        if self.innermost.is_chunks() {
-            self.put_chunk(!is_good);
-            return Ok(());
-        }
-        self.put(string.place, string.start)
     }
 
     /// Cuts the buffer at `start`, unless what follows is kept.
@@ -230,8 +145,15 @@ impl<O: KeyOrder> Encoder<O> {
         requires { out.items ≡ [] }
         ensures { ⟦<Encoder<O> as Visitor>⟧.holds result (top []) no_part }
     {
+        let encodings = Encodings {
+            out,
+            innermost: Level::new(Container::Input, 0, 0, 0),
+            outer: Vec::new(alloc),
+            pairs: Pairs::new(alloc),
+            spare: Vec::new(alloc),
+        };
         Encoder {
-            encodings: Encodings::new(alloc, out),
+            encodings,
             string: None,
             flaw: None,
             defect: None,
@@ -288,7 +210,7 @@ impl<O: KeyOrder> Encoder<O> {
         kind: StringKind,
         width: Width,
         len: u64,
-    ) -> Result<OpenString, AllocError>
+    ) -> Result<OpenString>
         ensures string { IfOk result (λ string. (string.place ≡ place) × (string.kind ≡ kind) × (string.width ≡ width) × (string.len ≡ len)) }
         ensures written { IfOk result (λ string. (f : Partial) → StandsIn O.order self.old.encodings f → (h : List ℕ) × Written O.order self.new.encodings string f self.old.encodings.out.items h []) }
         ensures rest { (self.new.flaw ≡ self.old.flaw) × (self.new.defect ≡ self.old.defect) }
@@ -306,9 +228,10 @@ impl<O: KeyOrder> Encoder<O> {
         })
     }
 
-    /// Ends a string whose content was written: finds what is wrong with it, and counts it.
+    /// Ends a string whose content was written: finds what is wrong with it, and counts it. Nothing of
+    /// it is left in the buffer unless it is good.
     #[inline(always)]
-    fn end_string(&mut self, string: OpenString, is_good: bool) -> Result<(), AllocError>
+    fn end_string(&mut self, string: OpenString, is_good: bool) -> Result<()>
         ensures held { OnOk result ((f : Partial) (y h x : List ℕ) → IsTrue is_good ↔ IsContent string.kind x → IsEndedString O.order self.old.encodings string f y h x → Finds O.order f self.old.flaw self.old.defect → IsHeld O.order self.new (put f (string_tree string.place string.kind string.width x)) no_part) }
     {
         let place = string.place;
@@ -317,7 +240,12 @@ impl<O: KeyOrder> Encoder<O> {
             &mut self.defect,
             head_defect(place, string.width, string.len),
         );
-        self.encodings.put_string(string, is_good)
+        self.encodings.cut(string.start, is_good);
+        if self.encodings.innermost.is_chunks() {
+            self.encodings.innermost.add(!is_good);
+            return Ok(());
+        }
+        self.encodings.put(place, string.start)
     }
 }
 
@@ -327,13 +255,7 @@ impl<O: KeyOrder> Visitor for Encoder<O> {
     ghost takes_memory = { Unit {0} };
 
     #[inline(always)]
-    fn integer(
-        &mut self,
-        place: u64,
-        negative: bool,
-        width: Width,
-        n: u64,
-    ) -> Result<(), AllocError> {
+    fn integer(&mut self, place: u64, negative: bool, width: Width, n: u64) -> Result<()> {
         let start = self.encodings.out.len();
         put_head(integer_major(negative), n, &mut self.encodings.out)?;
         keep(&mut self.defect, head_defect(place, width, n));
@@ -341,30 +263,30 @@ impl<O: KeyOrder> Visitor for Encoder<O> {
     }
 
     #[inline(always)]
-    fn simple(&mut self, place: u64, n: u8) -> Result<(), AllocError> {
+    fn simple(&mut self, place: u64, n: u8) -> Result<()> {
         let start = self.encodings.out.len();
         put_head(Major::Other, u64::from(n), &mut self.encodings.out)?;
         self.encodings.put(place, start)
     }
 
-    fn open_array(&mut self, place: u64, size: Size, count: Option<u64>) -> Result<(), AllocError> {
-        self.open(Container::Array { size, count }, place, Major::Array, count)
+    fn open_array(&mut self, place: u64, size: Size, count: Option<u64>) -> Result<()> {
+        self.open(Container::Array { size, count }, place)
     }
 
-    fn open_map(&mut self, place: u64, size: Size, count: Option<u64>) -> Result<(), AllocError> {
-        self.open(Container::Map { size, count }, place, Major::Map, count)
+    fn open_map(&mut self, place: u64, size: Size, count: Option<u64>) -> Result<()> {
+        self.open(Container::Map { size, count }, place)
     }
 
-    fn open_tag(&mut self, place: u64, width: Width, n: u64) -> Result<(), AllocError> {
+    fn open_tag(&mut self, place: u64, width: Width, n: u64) -> Result<()> {
         let number = n;
-        self.open(Container::Tag { width, number }, place, Major::Tag, Some(n))
+        self.open(Container::Tag { width, number }, place)
     }
 
-    fn open_chunks(&mut self, place: u64, kind: StringKind) -> Result<(), AllocError> {
-        self.open(Container::Chunks(kind), place, major_of(kind), None)
+    fn open_chunks(&mut self, place: u64, kind: StringKind) -> Result<()> {
+        self.open(Container::Chunks(kind), place)
     }
 
-    fn close(&mut self) -> Result<(), AllocError> {
+    fn close(&mut self) -> Result<()> {
         let level = self.encodings.innermost;
         match level.container {
             Container::Array { size, count } if level.count < 24 => self.end_array(size, count),
@@ -381,41 +303,30 @@ impl<O: KeyOrder> Visitor for Encoder<O> {
     }
 
     #[inline(always)]
-    fn open_string(
-        &mut self,
-        place: u64,
-        kind: StringKind,
-        width: Width,
-        len: u64,
-    ) -> Result<(), AllocError> {
+    fn open_string(&mut self, place: u64, kind: StringKind, width: Width, len: u64) -> Result<()> {
         let string = self.begin_string(place, kind, width, len)?;
         self.string = Some(string);
         Ok(())
     }
 
     #[inline(always)]
-    fn part(&mut self, bytes: &[u8]) -> Result<(), AllocError> {
+    fn part(&mut self, bytes: &[u8]) -> Result<()> {
         self.encodings.out.extend_from_slice(bytes)?;
         Ok(())
     }
 
     #[inline(always)]
-    fn close_string(&mut self) -> Result<(), AllocError> {
+    fn close_string(&mut self) -> Result<()> {
         let Some(string) = self.string.take() else {
             return Ok(());
         };
-        let is_good = self.encodings.is_good(string);
+        let written = from_index(&self.encodings.out, string.content);
+        let is_good = is_content(string.kind, written);
         self.end_string(string, is_good)
     }
 
     #[inline(always)]
-    fn string(
-        &mut self,
-        place: u64,
-        kind: StringKind,
-        width: Width,
-        bytes: &[u8],
-    ) -> Result<(), AllocError> {
+    fn string(&mut self, place: u64, kind: StringKind, width: Width, bytes: &[u8]) -> Result<()> {
         let string = self.begin_string(place, kind, width, bytes.len() as u64)?;
         self.encodings.out.extend_from_slice(bytes)?;
         let is_good = is_content(kind, bytes);
@@ -428,17 +339,24 @@ impl<O: KeyOrder> Visitor for Encoder<O> {
     }
 
     #[inline(always)]
-    fn integers(&mut self, _place: u64, count: u64, spelled: &[u8]) -> Result<bool, AllocError> {
-        self.encodings.put_items(count, spelled)?;
+    fn integers(&mut self, _place: u64, count: u64, spelled: &[u8]) -> Result<bool> {
+        self.encodings.out.extend_from_slice(spelled)?;
+        self.encodings.innermost.add_items(count);
         Ok(true)
     }
 
     #[inline(always)]
-    fn pair(&mut self, place: u64, pair: LeafPair) -> Result<bool, AllocError> {
+    fn pair(&mut self, place: u64, pair: LeafPair) -> Result<bool> {
         if !is_text(pair.key_text) || !is_text(pair.value_text) {
             return Ok(false);
         }
-        self.encodings.put_pair(place, pair.key_len, pair.spelled)?;
+        let start = self.encodings.out.len();
+        self.encodings.out.extend_from_slice(pair.spelled)?;
+        let end = self.encodings.out.len();
+        let middle = start.saturating_add(pair.key_len);
+        self.encodings.pairs.push_pair(place, start, middle, end)?;
+        self.encodings.innermost.add(false);
+        self.encodings.innermost.add(false);
         Ok(true)
     }
 }
@@ -451,15 +369,4 @@ pub(crate) fn major_of(kind: StringKind) -> Major
         StringKind::OfBytes => Major::ByteString,
         StringKind::OfText => Major::TextString,
     }
-}
-
-/// What was written from the index `start` on.
-#[inline(always)]
-pub(crate) fn written_from(start: usize, out: &[u8]) -> &[u8]
-    ensures { (y x : List ℕ) → out.now ≡ y ++ x → start ≡ length y → result.now ≡ x }
-{
-    if start > out.len() {
-        return &[];
-    }
-    &out[start..]
 }

@@ -5,8 +5,8 @@ ghost use Rattle.cborn_judge.specs.devices.Hints.{front_of, length_hint, hint_of
 
 use cborn_model::KnownOrder;
 
-/// The hint for a key in an order. Of two keys with different hints, the one with the lower hint comes
-/// first. It is 0 where the order isn't known.
+/// The hint for a key. Of two keys with different hints, the one with the lower hint comes first.
+/// It is 0 where the order isn't known.
 #[inline(always)]
 pub(crate) fn hint(known: Option<KnownOrder>, key: &[u8]) -> u64
     ensures { result ≡ hint_of known key.now }
@@ -44,9 +44,8 @@ fn front_number(key: &[u8]) -> u64
     }
 }
 
-/// The big-endian number of what comes after the first four bytes of a key of four to seven, as if
-/// zeros followed up to the eighth. It is cut out of the last four bytes, whatever the length: a branch
-/// for each length would be mispredicted.
+/// The big-endian number of the fifth byte on of a key of four to seven, as if zeros followed. It
+/// is cut out of the last four, whatever the length: a branch for each would be mispredicted.
 #[inline(always)]
 fn after_four(key: &[u8]) -> u64
     requires from_four { 4 ≤ length key.now }

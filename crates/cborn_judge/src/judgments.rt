@@ -9,14 +9,16 @@ ghost use Rattle.cborn_judge.specs.shared.Checked.{DefectIn};
 ghost use Rattle.cborn_judge.specs.devices.Building.{IsItemOf};
 ghost use Rattle.cborn_judge.specs.devices.Encoding.{IsEncodedAs};
 
-use crate::bignums::{big_integer, small_integer};
 use crate::encoders::{EncodedItems, Encoder};
 use crate::faults::Invalid;
-use crate::strings::{bytes_of, bytes_of_chunks, text_of, text_of_chunks};
-use cborn_model::{
-    Bytewise, Form, Item, ItemBox, ItemList, KeyOrder, Node, PairList, Spelled, Valid, visit_node,
+use crate::strings::{
+    big_integer, bytes_of, bytes_of_chunks, small_integer, text_of, text_of_chunks,
 };
-use std::alloc::{AllocError, Global};
+use cborn_model::{
+    Bytewise, Form, Item, ItemBox, ItemList, KeyOrder, Node, PairList, Result, Spelled, Valid,
+    visit_node,
+};
+use std::alloc::Global;
 
 /// The item that the node means (RFC 8949 section 5.3; bignums: section 3.4.3).
 ///
@@ -51,11 +53,7 @@ pub fn judge_all(alloc: Global, spelled: &[Spelled]) -> Result<Vec<Valid>, Inval
     Ok(items)
 }
 
-/// The deterministic encoding of the item that the node means, with the keys of maps in the order
-/// `O`, and the node's first defect.
-///
-/// # Errors
-/// Those of [`judge`].
+/// The deterministic encoding of what the node means, and its first defect. Errors as of [`judge`].
 pub(crate) fn encode<O: KeyOrder>(alloc: Global, spelled: &Spelled) -> Result<EncodedItems, Invalid>
     ensures fits { Fits spelled.now }
     ensures encoded { IfOk result (λ encoded. IsEncodedAs O.order spelled.now encoded.bytes.items) }
@@ -73,7 +71,7 @@ pub(crate) fn encode<O: KeyOrder>(alloc: Global, spelled: &Spelled) -> Result<En
 /// The item that the node means. Any item if it means none.
 #[cycle(built)]
 #[inline(always)]
-fn item_of(alloc: Global, node: &Node) -> Result<Item, AllocError>
+fn item_of(alloc: Global, node: &Node) -> Result<Item>
     ensures { IfOk result (IsItemOf node.now) }
 {
     match &node.form {
@@ -93,7 +91,7 @@ fn item_of(alloc: Global, node: &Node) -> Result<Item, AllocError>
 /// The array of what these nodes mean.
 #[cycle(built)]
 #[inline(never)]
-fn array_of(alloc: Global, nodes: &[Node]) -> Result<Item, AllocError>
+fn array_of(alloc: Global, nodes: &[Node]) -> Result<Item>
     ensures { IfOk result (λ item. (p : ℕ) (s : Size) → IsItemOf (tree.Items p s (trees nodes.now)) item) }
 {
     let mut items = Vec::with_capacity(alloc, nodes.len())?;
@@ -107,7 +105,7 @@ fn array_of(alloc: Global, nodes: &[Node]) -> Result<Item, AllocError>
 /// The map of what these nodes mean.
 #[cycle(built)]
 #[inline(never)]
-fn map_of(alloc: Global, nodes: &[(Node, Node)]) -> Result<Item, AllocError>
+fn map_of(alloc: Global, nodes: &[(Node, Node)]) -> Result<Item>
     ensures { IfOk result (λ item. (p : ℕ) (s : Size) → IsItemOf (tree.Pairs p s (entries nodes.now)) item) }
 {
     let mut pairs = Vec::with_capacity(alloc, nodes.len())?;
@@ -121,18 +119,17 @@ fn map_of(alloc: Global, nodes: &[(Node, Node)]) -> Result<Item, AllocError>
 
 /// Adds a pair. Not inlined, so that a level of a map takes less stack.
 #[inline(never)]
-fn push_pair(pairs: &mut Vec<(Item, Item)>, key: Item, value: Item) -> Result<(), AllocError>
+fn push_pair(pairs: &mut Vec<(Item, Item)>, key: Item, value: Item) -> Result<()>
     ensures { OnOk result (pairs.new.items ≡ pairs.old.items ++ (key, value) ∷ []) }
 {
     pairs.push((key, value))?;
     Ok(())
 }
 
-/// The tag of this number over what its content means, or the integer of a bignum (RFC 8949 section
-/// 3.4.3).
+/// The tag of this number over what its content means, or the integer of a bignum.
 #[cycle(built)]
 #[inline(never)]
-fn tagged_of(alloc: Global, number: u64, content: &Node) -> Result<Item, AllocError>
+fn tagged_of(alloc: Global, number: u64, content: &Node) -> Result<Item>
     ensures { IfOk result (λ item. (p : ℕ) (w : Width) → IsItemOf (tree.Tagged p w number content.now) item) }
 {
     if let Some(item) = big_integer(alloc, number, content)? {

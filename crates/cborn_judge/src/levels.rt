@@ -1,9 +1,12 @@
-//! What is open while items are encoded.
+//! What is open while items are encoded, and how it opens.
 
-ghost use Rattle.std.specs.Prelude.{◌≡◌};
-ghost use Rattle.cborn_judge.specs.devices.Encoding.{opened, after, after_items, has_key, is_chunks};
+ghost use Rattle.std.specs.Prelude.{◌≡◌, OnOk};
+ghost use Rattle.cborn_judge.specs.devices.Encoding.{head_of, opened, after, after_items, has_key, is_chunks};
+ghost use Rattle.cborn_judge.specs.devices.Encoders.{OpensAs};
 
-use cborn_model::{Size, StringKind, Width};
+use crate::encoders::{Encoder, major_of};
+use cborn_det::put_head;
+use cborn_model::{KeyOrder, Major, Result, Size, StringKind, Width};
 
 /// What an open container is.
 #[derive(Clone, Copy)]
@@ -15,6 +18,22 @@ pub(crate) enum Container {
     Tag { width: Width, number: u64 },
     /// A string of indefinite length.
     Chunks(StringKind),
+}
+
+impl Container {
+    /// The major type of its head, and the argument if that is known from the start.
+    #[inline(always)]
+    pub(crate) fn head(self) -> (Major, Option<u64>)
+        ensures { result ≡ head_of self }
+    {
+        match self {
+            Container::Input => (Major::Other, None),
+            Container::Array { count, .. } => (Major::Array, count),
+            Container::Map { count, .. } => (Major::Map, count),
+            Container::Tag { number, .. } => (Major::Tag, Some(number)),
+            Container::Chunks(kind) => (major_of(kind), None),
+        }
+    }
 }
 
 /// An open container.
@@ -85,5 +104,43 @@ impl Level {
         ensures { result ≡ is_chunks self.now }
     {
         matches!(self.container, Container::Chunks(_))
+    }
+}
+
+impl<O: KeyOrder> Encoder<O> {
+    /// Opens a container at `place`, with its head, or a byte in the place of one not known yet.
+    #[inline(always)]
+    pub(crate) fn open(&mut self, container: Container, place: u64) -> Result<()>
+        ensures { OnOk result (OpensAs O.order container place self.old self.new) }
+    {
+        if self.encodings.outer.len() != self.encodings.outer.capacity() {
+            return self.open_level(container, place);
+        }
+        // a copy, so that the short way needs the container nowhere in memory
+        let opened = container;
+        self.open_slowly(opened, place)
+    }
+
+    /// What [`Encoder::open`] does where memory has to grow.
+    #[inline(never)]
+    fn open_slowly(&mut self, container: Container, place: u64) -> Result<()>
+        ensures { OnOk result (OpensAs O.order container place self.old self.new) }
+    {
+        self.open_level(container, place)
+    }
+
+    /// What [`Encoder::open`] does.
+    #[inline(always)]
+    fn open_level(&mut self, container: Container, place: u64) -> Result<()>
+        ensures { OnOk result (OpensAs O.order container place self.old self.new) }
+    {
+        let start = self.encodings.out.len();
+        let level = Level::new(container, place, start, self.encodings.pairs.len());
+        self.encodings.outer.push(self.encodings.innermost)?;
+        self.encodings.innermost = level;
+        let (major, argument) = container.head();
+        put_head(major, argument.unwrap_or(0), &mut self.encodings.out)?;
+        self.encodings.innermost.content = self.encodings.out.len();
+        Ok(())
     }
 }

@@ -5,11 +5,11 @@
 //! deterministic encodings?* One visitor answers both, whatever the items are read from:
 //! [`Encoder`] takes them head by head, writes what they are encoded as, and keeps the first flaw
 //! and the first defect. `levels`, `pairs` and `marks` are what it keeps of open containers, `hints`
-//! are numbers by which most keys are sorted, `openings` and `ends` say how containers open and end,
-//! and `spellings` has the defects of single heads. [`judge`] hands it a node, and builds the item of
-//! one that means something (`judgments`, `strings`, `bignums`); [`first_defect`] tells the first
-//! defect of a node (`checks`). A flaw is an [`InvalidReason`] at a place (`faults`), and a defect a
-//! [`DefectReason`] at one (`defects`).
+//! are numbers by which most keys are sorted, `ends` says how containers end, and `spellings` has the
+//! defects of single heads. [`Follower`] writes nothing, and sees whether bytes are their own encodings.
+//! [`judge`] hands the encoder a node, and builds the item of one that means something (`judgments`,
+//! `strings`); [`first_defect`] tells the first defect of a node (`checks`). A flaw is an
+//! [`InvalidReason`] at a place (`faults`), and a defect a [`DefectReason`] at one (`defects`).
 //!
 //! A reader of the definitions starts at `specs/Flaws.antt` (what is wrong with a node, and what
 //! comes first) and `specs/Defects.antt` (where a spelling departs from the deterministic
@@ -18,19 +18,17 @@
 //! flaw means an item, and no defect the deterministic encoding.
 #![tactic(auto)]
 
-mod bignums;
 mod checks;
 mod defects;
 mod encoders;
 mod ends;
 mod faults;
-mod flaws;
+mod followers;
 mod hints;
 mod judgments;
 pub mod laws;
 mod levels;
 mod marks;
-mod openings;
 mod pairs;
 mod spellings;
 mod strings;
@@ -40,6 +38,5 @@ pub use checks::first_defect;
 pub use defects::{Defect, DefectReason};
 pub use encoders::{EncodedItems, Encoder};
 pub use faults::{Invalid, InvalidReason};
+pub use followers::{Follower, Input};
 pub use judgments::{judge, judge_all};
-pub use spellings::{head_defect, is_loose, loose_defect, order_defect};
-pub use strings::is_text;

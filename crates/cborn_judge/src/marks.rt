@@ -7,15 +7,13 @@ ghost use Rattle.cborn_judge.specs.Departures.{FindsDefect};
 ghost use Rattle.cborn_judge.specs.Reasons.{defect_rank};
 ghost use Rattle.cborn_judge.specs.shared.Judged.{FindsFlaw};
 ghost use Rattle.cborn_judge.specs.devices.Encoding.{Row, row_entries, Mark as Marked, AreMarked, AreFilled, AreArranged, RowRepeat, FindsDescent};
-ghost use Rattle.cborn_judge.specs.devices.Marks.{mark_of, narrow_of, mark_hint, narrow_hint, between, key_of, pair_of, AreHinted, is_above, mark_order, FallAt, TieAt, FallsIn, TiesIn, AreSorted};
+ghost use Rattle.cborn_judge.specs.devices.Marks.{mark_of, narrow_of, mark_hint, narrow_hint, between, key_of, pair_of, AreHinted, is_above, mark_order, FallAt, TieAt, FallsIn, TiesIn};
 
 use crate::defects::Defect;
-use crate::faults::InvalidReason;
-use crate::flaws::Flaw;
+use crate::faults::{Flaw, InvalidReason};
 use crate::hints::{common_front, hint};
 use crate::spellings::order_defect;
-use cborn_model::{KeyOrder, earliest};
-use std::alloc::AllocError;
+use cborn_model::{KeyOrder, Result, earliest};
 use std::cmp::Ordering;
 
 /// Where a key and its value lie in a buffer.
@@ -31,22 +29,6 @@ pub(crate) struct Mark {
     pub(crate) end: usize,
     /// The hint for the key; 0 until [`descent`] keeps it here. It is only for the sort.
     pub(crate) hint: u64,
-}
-
-impl Mark {
-    /// A mark without a hint.
-    #[inline(always)]
-    pub(crate) fn new(place: u64, start: usize, middle: usize, end: usize) -> Mark
-        ensures { mark_of result ≡ (place, start, middle, end) }
-    {
-        Mark {
-            place,
-            start,
-            middle,
-            end,
-            hint: 0,
-        }
-    }
 }
 
 /// A mark whose offsets fit 32 bits, in less room.
@@ -151,19 +133,15 @@ impl NarrowMark {
         ensures set { result ≡ true → (p s m e : ℕ) → narrow_of self.old ≡ (p, s, m, e) → narrow_of self.new ≡ (p, s, m, end) }
         ensures kept { result ≡ false → self.new ≡ self.old }
     {
-        match u32::try_from(end) {
-            Ok(end) => {
-                self.end = end;
-                true
-            }
-            Err(_) => false,
-        }
+        let Ok(end) = u32::try_from(end) else {
+            return false;
+        };
+        self.end = end;
+        true
     }
 }
 
-/// The first defect of the order of the pairs that are marked from the index `from` on, and lie in
-/// `out`; if there is none, their keys rise. A key without an encoding is passed over. Each of these
-/// marks gets the hint for its key.
+/// What `Pairs::descent` does.
 pub(crate) fn descent<O: KeyOrder, S: Spot>(
     spots: &mut Vec<S>,
     from: usize,
@@ -179,17 +157,14 @@ pub(crate) fn descent<O: KeyOrder, S: Spot>(
     first_fall::<O, S>(&mut spots[from..], out)
 }
 
-/// Arranges the pairs that are marked from the index `from` on, and lie in `out` from the offset
-/// `start` on, so that their keys rise. Gives the first key that is the same as an earlier one; then,
-/// and where a key has no encoding, nothing is promised of their order. What the marks say of them
-/// means nothing after it.
+/// What `Pairs::arrange` does.
 pub(crate) fn arrange<O: KeyOrder, S: Spot>(
     spots: &mut Vec<S>,
     from: usize,
     start: usize,
     spare: &mut Vec<u8>,
     out: &mut Vec<u8>,
-) -> Result<Option<Flaw>, AllocError>
+) -> Result<Option<Flaw>>
     requires { AreHinted S.hinted S.seen O.order out.old.items (drop from spots.old.items) }
     ensures repeat { IfOk result (λ flaw. (y : List ℕ) (rows : List Row) → start ≡ length y → out.old.items ≡ y ++ joined (row_entries rows) → AreMarked start rows (drop from (map S.seen spots.old.items)) → FindsFlaw (RowRepeat rows) flaw) }
     ensures arranged { IfOk result (λ flaw. flaw ≡ None → (y : List ℕ) (rows : List Row) → start ≡ length y → out.old.items ≡ y ++ joined (row_entries rows) → AreMarked start rows (drop from (map S.seen spots.old.items)) → AreFilled rows → (x : List ℕ) × AreArranged O.order rows x × (out.new.items ≡ y ++ x)) }
@@ -208,7 +183,7 @@ fn arrange_all<O: KeyOrder, S: Spot>(
     start: usize,
     spare: &mut Vec<u8>,
     out: &mut Vec<u8>,
-) -> Result<Option<Flaw>, AllocError>
+) -> Result<Option<Flaw>>
     requires { AreHinted S.hinted S.seen O.order out.old.items spots.old }
     ensures repeat { IfOk result (λ flaw. (y : List ℕ) (rows : List Row) → start ≡ length y → out.old.items ≡ y ++ joined (row_entries rows) → AreMarked start rows (map S.seen spots.old) → FindsFlaw (RowRepeat rows) flaw) }
     ensures arranged { IfOk result (λ flaw. flaw ≡ None → (y : List ℕ) (rows : List Row) → start ≡ length y → out.old.items ≡ y ++ joined (row_entries rows) → AreMarked start rows (map S.seen spots.old) → AreFilled rows → (x : List ℕ) × AreArranged O.order rows x × (out.new.items ≡ y ++ x)) }
@@ -221,9 +196,8 @@ fn arrange_all<O: KeyOrder, S: Spot>(
     Ok(flaw)
 }
 
-/// Sorts marks by their keys, and gives the first key that is the same as an earlier one. If none
-/// is, and each key has an encoding, the keys rise then. The marks are sorted by the hints that they
-/// keep, and those with equal hints by others. If the keys don't rise then, their bytes alone decide.
+/// Sorts marks so that their keys rise, and gives the first key that is the same as an earlier one.
+/// They are sorted by the hints that they keep, then equal ones by others, and else by the bytes.
 fn sort_apart<O: KeyOrder, S: Spot>(spots: &mut [S], out: &[u8]) -> Option<Flaw>
     requires { AreHinted S.hinted S.seen O.order out.now spots.old }
     ensures { (y : List ℕ) (rows : List Row) → out.now ≡ y ++ joined (row_entries rows) → AreMarked (length y) rows (map S.seen spots.old) → FindsFlaw (RowRepeat rows) result × (result ≡ None → AreFilled rows → AreArranged O.order rows (flat_map (pair_of out.now) (map S.seen spots.new))) }
@@ -236,7 +210,7 @@ fn sort_apart<O: KeyOrder, S: Spot>(spots: &mut [S], out: &[u8]) -> Option<Flaw>
     if do_rise::<O, S>(spots, out) {
         return None;
     }
-    sort::<O, S>(spots, out);
+    spots.sort_unstable_by(|a, b| compare_keys::<O>(out, a.mark(), b.mark()));
     first_tie(spots, out)
 }
 
@@ -274,8 +248,8 @@ fn sort_runs<O: KeyOrder, S: Spot>(spots: &mut [S], out: &[u8])
     }
 }
 
-/// Sorts marks that have the same hint by their keys. They are sorted by the hints for what comes after
-/// the front that all their keys have in common, and those with equal hints by their keys.
+/// Sorts marks that have the same hint by their keys: by hints for what comes after the front that
+/// all have in common, then by the keys. Each gets its hint back: `do_rise` compares by it first.
 #[inline(never)]
 fn sort_run<O: KeyOrder, S: Spot>(spots: &mut [S], out: &[u8])
     ensures moved { IsPermutation (map S.seen spots.old) (map S.seen spots.new) }
@@ -306,10 +280,7 @@ fn set_hints<S: Spot>(hint: u64, spots: &mut [S])
 
 /// How many bytes at their front all keys of these marks have in common.
 fn common_len<S: Spot>(spots: &[S], out: &[u8]) -> usize {
-    let mut common: &[u8] = match spots.first() {
-        Some(spot) => key_in(out, spot.mark()),
-        None => &[],
-    };
+    let mut common: &[u8] = spots.first().map_or(&[], |spot| key_in(out, spot.mark()));
     for spot in spots {
         let key = key_in(out, spot.mark());
         if !key.starts_with(common) {
@@ -331,8 +302,7 @@ fn hint_after<O: KeyOrder, S: Spot>(common: usize, spots: &mut [S], out: &[u8])
 }
 
 /// The first key that isn't above the one before it, of those that have an encoding. Each mark gets
-/// the hint for its key. A key with a higher hint than the one before it is above that, so its bytes
-/// aren't looked at.
+/// its hint, and where that is higher than the one before, the bytes aren't looked at.
 fn first_fall<O: KeyOrder, S: Spot>(spots: &mut [S], out: &[u8]) -> Option<Defect>
     ensures found { FindsDefect (FallsIn O.order out.now (map S.seen spots.old)) result }
     ensures hinted { AreHinted S.hinted S.seen O.order out.now spots.new }
@@ -358,8 +328,7 @@ fn first_fall<O: KeyOrder, S: Spot>(spots: &mut [S], out: &[u8]) -> Option<Defec
     first
 }
 
-/// The first of what was found so far and the defect of `key`, as `fall` gives it. One at a higher place
-/// isn't looked for.
+/// The first of what was found so far and the defect of `key`, as `fall` gives it.
 #[inline(always)]
 fn keep_fall<O: KeyOrder>(
     first: Option<Defect>,
@@ -375,8 +344,7 @@ fn keep_fall<O: KeyOrder>(
     }
 }
 
-/// The defect of `key` at the offset `place`, if it isn't above the one before it. Either is empty
-/// if there is none.
+/// The defect of `key` at `place`, if it isn't above the one before it; none where either is empty.
 fn fall<O: KeyOrder>(place: u64, before: &[u8], key: &[u8]) -> Option<Defect>
     ensures { FindsDefect (FallAt O.order before.now key.now place) result }
 {
@@ -386,23 +354,12 @@ fn fall<O: KeyOrder>(place: u64, before: &[u8], key: &[u8]) -> Option<Defect>
     order_defect::<O>(place, before, key)
 }
 
-/// Sorts marks by their keys, and those of equal keys by where they lie.
-fn sort<O: KeyOrder, S: Spot>(spots: &mut [S], out: &[u8])
-    ensures moved { IsPermutation spots.old spots.new }
-    ensures sorted { AreSorted O.order out.now (map S.seen spots.new) }
-{
-    spots.sort_unstable_by(|a, b| compare_keys::<O>(out, a.mark(), b.mark()));
-}
-
 /// How two marks compare: by their keys, and at equal keys by where they lie.
 #[inline(never)]
 fn compare_keys<O: KeyOrder>(out: &[u8], a: Mark, b: Mark) -> Ordering
     ensures { result ≡ mark_order O.order out.now (mark_of a) (mark_of b) }
 {
-    match O::compare(key_in(out, a), key_in(out, b)) {
-        Ordering::Equal => a.start.cmp(&b.start),
-        unequal => unequal,
-    }
+    O::compare(key_in(out, a), key_in(out, b)).then(a.start.cmp(&b.start))
 }
 
 /// The first key that is the same as the one before it, and not empty.
@@ -435,14 +392,8 @@ fn tie(place: u64, before: &[u8], key: &[u8]) -> Option<Flaw>
     Some(Flaw { place, reason })
 }
 
-/// Writes the pairs that `out` has from `start` on in the order of the marks: they are copied to
-/// `spare`, and the copy is written over them.
-fn set<S: Spot>(
-    spots: &[S],
-    start: usize,
-    spare: &mut Vec<u8>,
-    out: &mut Vec<u8>,
-) -> Result<(), AllocError>
+/// Writes the pairs that `out` has from `start` on in the order of the marks, by way of `spare`.
+fn set<S: Spot>(spots: &[S], start: usize, spare: &mut Vec<u8>, out: &mut Vec<u8>) -> Result<()>
     ensures { OnOk result (out.new.items ≡ take start out.old.items ++ flat_map (pair_of out.old.items) (map S.seen spots.now)) }
 {
     spare.clear();
@@ -453,7 +404,7 @@ fn set<S: Spot>(
 }
 
 /// Copies pairs one after another to the end of `copy`.
-fn copy_pairs<S: Spot>(spots: &[S], out: &[u8], copy: &mut Vec<u8>) -> Result<(), AllocError>
+fn copy_pairs<S: Spot>(spots: &[S], out: &[u8], copy: &mut Vec<u8>) -> Result<()>
     ensures { OnOk result (copy.new.items ≡ copy.old.items ++ flat_map (pair_of out.now) (map S.seen spots.now)) }
 {
     for spot in spots {
@@ -485,7 +436,7 @@ fn bytes_between(bytes: &[u8], start: usize, end: usize) -> &[u8]
 
 /// The items from an index on.
 #[inline(always)]
-fn from_index<T>(items: &[T], from: usize) -> &[T]
+pub(crate) fn from_index<T>(items: &[T], from: usize) -> &[T]
     ensures { result.now ≡ drop from items.now }
 {
     items.get(from..).unwrap_or(&[])

@@ -7,10 +7,10 @@ ghost use Rattle.cborn_judge.specs.devices.Encoding.{Row, row_entries, Mark as M
 ghost use Rattle.cborn_judge.specs.devices.Marks.{mark_of, narrow_of, marks_of, AreAllHinted};
 
 use crate::defects::Defect;
-use crate::flaws::Flaw;
+use crate::faults::Flaw;
 use crate::marks::{Mark, NarrowMark, Spot, arrange, descent};
-use cborn_model::KeyOrder;
-use std::alloc::{AllocError, Global};
+use cborn_model::{KeyOrder, Result};
+use std::alloc::Global;
 
 /// Marks of pairs. They are narrow until the offsets of one don't fit 32 bits.
 #[derive(Drop)]
@@ -56,7 +56,7 @@ impl Pairs {
 
     /// Marks where the value of the last key ends.
     #[inline(always)]
-    pub(crate) fn set_end(&mut self, end: usize) -> Result<(), AllocError>
+    pub(crate) fn set_end(&mut self, end: usize) -> Result<()>
         ensures { OnOk result ((ms : List Marked) (p s m e : ℕ) → marks_of self.old ≡ ms ++ (p, s, m, e) ∷ [] → marks_of self.new ≡ ms ++ (p, s, m, end) ∷ []) }
     {
         if let Marks::Narrow(narrow) = &mut self.marks {
@@ -71,7 +71,7 @@ impl Pairs {
 
     /// What [`Pairs::set_end`] does where marks are wide, or have to become so.
     #[inline(never)]
-    fn set_wide_end(&mut self, end: usize) -> Result<(), AllocError>
+    fn set_wide_end(&mut self, end: usize) -> Result<()>
         ensures { OnOk result ((ms : List Marked) (p s m e : ℕ) → marks_of self.old ≡ ms ++ (p, s, m, e) ∷ [] → marks_of self.new ≡ ms ++ (p, s, m, end) ∷ []) }
     {
         if let Some(mark) = self.pop() {
@@ -80,8 +80,7 @@ impl Pairs {
         Ok(())
     }
 
-    /// Marks a key and its value, which is empty while it is missing. The marks are narrow as a rule, and
-    /// there is room for one more.
+    /// Marks a key and its value, which is empty while it is missing. There is room as a rule.
     #[inline(never)]
     pub(crate) fn push_pair(
         &mut self,
@@ -89,7 +88,7 @@ impl Pairs {
         start: usize,
         middle: usize,
         end: usize,
-    ) -> Result<(), AllocError>
+    ) -> Result<()>
         ensures { OnOk result (marks_of self.new ≡ marks_of self.old ++ (place, start, middle, end) ∷ []) }
     {
         if let Marks::Narrow(narrow) = &mut self.marks {
@@ -105,16 +104,17 @@ impl Pairs {
 
     /// What [`Pairs::push_pair`] does otherwise.
     #[inline(never)]
-    fn push_mark(
-        &mut self,
-        place: u64,
-        start: usize,
-        middle: usize,
-        end: usize,
-    ) -> Result<(), AllocError>
+    fn push_mark(&mut self, place: u64, start: usize, middle: usize, end: usize) -> Result<()>
         ensures { OnOk result (marks_of self.new ≡ marks_of self.old ++ (place, start, middle, end) ∷ []) }
     {
-        self.add(Mark::new(place, start, middle, end))
+        let hint = 0;
+        self.add(Mark {
+            place,
+            start,
+            middle,
+            end,
+            hint,
+        })
     }
 
     /// Drops all pairs but the first `len`.
@@ -128,9 +128,8 @@ impl Pairs {
         }
     }
 
-    /// The first defect of the order of the pairs that are marked from the index `from` on, and lie
-    /// in `out`; if there is none, their keys rise. A key without an encoding is passed over. Each of
-    /// these marks gets the hint for its key.
+    /// The first defect of the order of the pairs in `out` marked from `from` on; without one
+    /// their keys rise. A key without an encoding is passed over. Each mark gets its hint.
     pub(crate) fn descent<O: KeyOrder>(&mut self, from: usize, out: &[u8]) -> Option<Defect>
         ensures found { (start : ℕ) → FindsDescent O.order start (drop from (marks_of self.old)) out.now result }
         ensures hinted { AreAllHinted O.order out.now from self.new.marks }
@@ -142,17 +141,16 @@ impl Pairs {
         }
     }
 
-    /// Arranges the pairs that are marked from the index `from` on, and lie in `out` from
-    /// the offset `start` on, so that their keys rise. Gives the first key that is the same as an
-    /// earlier one; then, and where a key has no encoding, nothing is promised of their order. What
-    /// the marks say of them means nothing after it.
+    /// Arranges the pairs that are marked from `from` on, and lie in `out` from `start` on, so that
+    /// their keys rise, and gives the first key that is the same as an earlier one. Nothing is
+    /// promised of their order then, and where a key has no encoding, nor of what marks say.
     pub(crate) fn arrange<O: KeyOrder>(
         &mut self,
         from: usize,
         start: usize,
         spare: &mut Vec<u8>,
         out: &mut Vec<u8>,
-    ) -> Result<Option<Flaw>, AllocError>
+    ) -> Result<Option<Flaw>>
         requires { AreAllHinted O.order out.old.items from self.old.marks }
         ensures repeat { IfOk result (λ flaw. (y : List ℕ) (rows : List Row) → start ≡ length y → out.old.items ≡ y ++ joined (row_entries rows) → AreMarked start rows (drop from (marks_of self.old)) → FindsFlaw (RowRepeat rows) flaw) }
         ensures arranged { IfOk result (λ flaw. flaw ≡ None → (y : List ℕ) (rows : List Row) → start ≡ length y → out.old.items ≡ y ++ joined (row_entries rows) → AreMarked start rows (drop from (marks_of self.old)) → AreFilled rows → (x : List ℕ) × AreArranged O.order rows x × (out.new.items ≡ y ++ x)) }
@@ -166,7 +164,7 @@ impl Pairs {
     }
 
     /// Adds a mark.
-    fn add(&mut self, mark: Mark) -> Result<(), AllocError>
+    fn add(&mut self, mark: Mark) -> Result<()>
         ensures { OnOk result (marks_of self.new ≡ marks_of self.old ++ mark_of mark ∷ []) }
     {
         let Some(small) = NarrowMark::of(mark.place, mark.start, mark.middle, mark.end) else {
@@ -181,7 +179,7 @@ impl Pairs {
 
     /// Adds a mark whose offsets don't fit 32 bits. All are wide from then on.
     #[inline(never)]
-    fn add_wide(&mut self, mark: Mark) -> Result<(), AllocError>
+    fn add_wide(&mut self, mark: Mark) -> Result<()>
         ensures { OnOk result (marks_of self.new ≡ marks_of self.old ++ mark_of mark ∷ []) }
     {
         match &mut self.marks {
@@ -208,7 +206,7 @@ impl Pairs {
 }
 
 /// These marks and one more, all of them wide.
-fn widened(alloc: Global, narrow: &[NarrowMark], last: Mark) -> Result<Vec<Mark>, AllocError>
+fn widened(alloc: Global, narrow: &[NarrowMark], last: Mark) -> Result<Vec<Mark>>
     ensures { IfOk result (λ wide. map mark_of wide.items ≡ map narrow_of narrow.now ++ mark_of last ∷ []) }
 {
     let mut wide = Vec::with_capacity(alloc, narrow.len())?;

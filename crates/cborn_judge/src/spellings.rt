@@ -12,7 +12,7 @@ use cborn_model::{KeyOrder, Size, Width, shortest};
 /// The defect of a head at the offset `place` with the argument `n`, if it is not the shortest (RFC
 /// 8949 section 4.2.1).
 #[inline]
-pub fn head_defect(place: u64, width: Width, n: u64) -> Option<Defect>
+pub(crate) fn head_defect(place: u64, width: Width, n: u64) -> Option<Defect>
     ensures { FindsDefect (LongAt place width n) result }
 {
     if width == shortest(n) {
@@ -22,8 +22,7 @@ pub fn head_defect(place: u64, width: Width, n: u64) -> Option<Defect>
     Some(Defect { place, reason })
 }
 
-/// The defect of the head at `place` of an array or a map that ends with `n` entries, and had this size
-/// and this count at its start.
+/// The defect of the head of an array or a map of `n` entries, with this size and count at first.
 #[inline(always)]
 pub(crate) fn ended_defect(place: u64, size: Size, count: Option<u64>, n: u64) -> Option<Defect>
     ensures { FindsDefect (SizeAt place (ended_size size count n) n) result }
@@ -42,7 +41,7 @@ pub(crate) fn ended_defect(place: u64, size: Size, count: Option<u64>, n: u64) -
 /// The defect of a bignum at the offset `place` with these bytes, if they begin with a zero or are
 /// at most eight (RFC 8949 section 3.4.3).
 #[inline]
-pub fn loose_defect(place: u64, bytes: &[u8]) -> Option<Defect>
+pub(crate) fn loose_defect(place: u64, bytes: &[u8]) -> Option<Defect>
     ensures { FindsDefect (LooseBytesAt place bytes.now) result }
 {
     if is_loose(bytes) {
@@ -55,7 +54,7 @@ pub fn loose_defect(place: u64, bytes: &[u8]) -> Option<Defect>
 /// Whether the bytes of a bignum begin with 0 or are at most eight: then its integer has a shorter
 /// encoding (RFC 8949 section 3.4.3).
 #[inline]
-pub fn is_loose(bytes: &[u8]) -> bool
+pub(crate) fn is_loose(bytes: &[u8]) -> bool
     ensures { IsTrue result ↔ IsLoose bytes.now }
 {
     bytes.len() <= 8 || bytes[0] == 0
@@ -64,7 +63,11 @@ pub fn is_loose(bytes: &[u8]) -> bool
 /// The defect of a key at the offset `place`, if its encoding is not above `previous`, that of the
 /// key before it, in the order `O` (RFC 8949 section 4.2.1).
 #[inline]
-pub fn order_defect<O: KeyOrder>(place: u64, previous: &[u8], encoding: &[u8]) -> Option<Defect>
+pub(crate) fn order_defect<O: KeyOrder>(
+    place: u64,
+    previous: &[u8],
+    encoding: &[u8],
+) -> Option<Defect>
     ensures { FindsDefect (NotAboveAt O.order place previous.now encoding.now) result }
 {
     if O::compare(previous, encoding).is_lt() {

@@ -1,6 +1,6 @@
 -- Fronts in two parts: a kind, and the number or the content that goes with it.
 use Rattle.std.specs.Prelude.{◌≡◌, ◌&&◌, ◌<◌, ◌≤◌, ◌∷◌, ◌++◌, ◌+◌}
-use Rattle.cborn_lex.proofs.Common.{refl, sym, ◌∙◌, subst, ℕ, zero, suc, List, [], append-nil, length, take, drop, get_or, Bool, true, false, eqb, inl, inr, Option, None, Result, Ok, Err, IfOk, arith, false≢true, eq-eqb, and_right, and_parts, cases_lt, cond-false, Mark, Class, Front, Read, marked, mark_of, is_word, Profile, IsIndicator, Start, digit, start_of, ReadsFrom, Prefix, prefix_of, IsPrefixed, ReadsWord, class_of, content_of, StandsFor, front_view, FrontStandsFor}
+use Rattle.cborn_lex.proofs.Common.{refl, sym, ◌∙◌, subst, ℕ, zero, suc, List, [], append-nil, length, take, drop, get_or, Bool, true, false, eqb, inl, inr, Option, None, Result, Ok, Err, IfOk, arith, false≢true, eq-eqb, and_right, and_parts, cases_lt, cond-false, Mark, Class, Front, Read, marked, mark_of, is_word, Profile, IsIndicator, IsRun, Start, digit, start_of, ReadsFrom, Prefix, prefix_of, IsPrefixed, ReadsWord, class_of, content_of, StandsFor, front_view, FrontStandsFor}
 use Rattle.cborn_lex.specs.declared.classes.Kind.{Kind}
 use Rattle.cborn_lex.specs.declared.fronts.Front.{Front as FrontIn}
 use Rattle.cborn_lex.specs.declared.classes.Class.TheVariants as classes
@@ -27,6 +27,10 @@ long_mark (a ∷ b ∷ c ∷ y) (suc (suc zero)) l u h k i = absurd (false≢tru
 long_mark (a ∷ b ∷ c ∷ y) (suc (suc (suc n))) l u h k i =
     sym (cond-false _ _ _ (and_right (eqb a 95) _ refl) ∙ (cond-false _ _ _ (and_right (eqb a 95) _ (and_right (eqb b 48) _ refl)) ∙ (cond-false _ _ _ (and_right (eqb a 95) _ (and_right (eqb b 49) _ refl))
     ∙ (cond-false _ _ _ (and_right (eqb a 95) _ (and_right (eqb b 50) _ refl)) ∙ cond-false _ _ _ (and_right (eqb a 95) _ (and_right (eqb b 51) _ refl))))))
+
+-- an underscore and all characters of words after it
+pub underscored : (x : List ℕ) (n : ℕ) → 0 < length x → get_or x 0 0 ≡ 95 → IsRun is_word (take n (drop 1 x)) (drop n (drop 1 x)) → IsIndicator (take (n + 1) x) (drop (n + 1) x)
+underscored x n h1 h2 h3 = grind arith
 
 -- a front that begins with the character c, where nothing was appended
 pub from_plain : (profile : Profile) (c d n m : ℕ) (tail old : List ℕ) (f : FrontIn) → c ≡ d → n ≤ length tail → ReadsFrom (start_of d) profile d (take n tail) (drop n tail) (front_view m [] f)

@@ -63,8 +63,7 @@ pub enum Kind {
 }
 
 impl Kind {
-    /// The class of a token of this kind: with `number` if it is an integer or a tag, and with
-    /// `content` if it is a string.
+    /// The class of a token of this kind, with `number` or `content` where it has such a part.
     #[inline(always)]
     pub(crate) fn into_class(self, number: u128, content: Vec<u8>) -> Class
         ensures { result ≡ class_of self number content.items }
@@ -110,28 +109,19 @@ pub struct BareToken {
     pub kind: Kind,
 }
 
-/// What a token is, with its number or content.
+/// What a token is, with its number or content. A variant with no comment of its own is that of
+/// [`Kind`].
 #[derive(Drop)]
 pub enum Class {
-    /// `[`
     ArrayOpen(Mark),
-    /// `{`
     MapOpen(Mark),
-    /// `]`
     ArrayClose,
-    /// `}`
     MapClose,
-    /// `)`
     ParenClose,
-    /// `,`
     Comma,
-    /// `:`
     Colon,
-    /// `<<`
     EmbedOpen,
-    /// `>>`
     EmbedClose(Mark),
-    /// `(_`, the start of a string in chunks.
     ChunkOpen,
     /// An integer: `magnitude`, or `-magnitude` if `negative` is set, which it isn't at 0.
     Number {
@@ -139,14 +129,11 @@ pub enum Class {
         magnitude: u128,
         mark: Mark,
     },
-    /// The number of a tag, with its indicator and its `(`.
     TagOpen {
         number: u128,
         mark: Mark,
     },
-    /// `false`, `true`, `null` or `undefined`, by its simple value: 20, 21, 22 or 23.
     Word(u8),
-    /// `simple(`
     SimpleOpen,
     /// A string in double quotes, by its bytes in UTF-8.
     Text {

@@ -5,11 +5,12 @@ ghost use Rattle.cborn_lex.specs.Common.{list_any, decode_of};
 ghost use Rattle.cborn_lex.specs.Cited.{Front as AnyFront, is_white, IsHex, base64_text, to_standard, IsBase64, IsUnquoted};
 ghost use Rattle.cborn_lex.specs.devices.Common.{strip, IsEncoded, refusal, FrontStandsFor};
 
+use crate::Result;
 use crate::escaped::bytes_front;
 use crate::faults::LexReason;
 use crate::fronts::Front;
 use crate::integers::{all_digits, digit_of};
-use crate::slices::{find, front_of, is_white, mark_at, rest_of};
+use crate::slices::{find, is_white, mark_at, rest_of};
 use base64::DecodeAllocError;
 use base64::engine::general_purpose::STANDARD;
 use std::alloc::{AllocError, Global};
@@ -23,9 +24,8 @@ pub enum Encoding {
     Base64,
 }
 
-/// The digits of a content in hexadecimal, which may have white space and comments between them.
-/// `None` if it has anything else.
-fn hex_digits(alloc: Global, content: &[u8]) -> Result<Option<Vec<u8>>, AllocError>
+/// The digits of a content, if there is nothing but white space and comments between them.
+fn hex_digits(alloc: Global, content: &[u8]) -> Result<Option<Vec<u8>>>
     ensures { IfOk result (λ r. MatchOption r (strip false content.now ≡ None) (λ v. strip false content.now ≡ Some v.items)) }
 {
     let mut digits = Vec::with_capacity(alloc, content.len())?;
@@ -46,7 +46,7 @@ fn hex_digits(alloc: Global, content: &[u8]) -> Result<Option<Vec<u8>>, AllocErr
 
 /// Appends the bytes that digits in hexadecimal write; `false` if they write none.
 #[tactic(auto, using(crate::proofs::Contents::Hexes::appended, crate::proofs::Contents::Hexes::decoded_ok, std::proofs::lemmas::Slice::overwrites))]
-fn push_digits(digits: &[u8], out: &mut Vec<u8>) -> Result<bool, AllocError>
+fn push_digits(digits: &[u8], out: &mut Vec<u8>) -> Result<bool>
     ensures written { IfOk result (λ ok. ok ≡ true → (bytes : List ℕ) × (decode_of digits.now ≡ Ok bytes) × (out.new.items ≡ out.old.items ++ bytes)) }
     ensures none { IfOk result (λ ok. ok ≡ false → (bytes : List ℕ) → decode_of digits.now ≡ Ok bytes → ⊥) }
 {
@@ -55,9 +55,8 @@ fn push_digits(digits: &[u8], out: &mut Vec<u8>) -> Result<bool, AllocError>
     Ok(hex::decode_to_slice(digits, &mut out[start..]).is_ok())
 }
 
-/// Appends the bytes that a content in hexadecimal encodes; `false` if it encodes none. Mostly there is
-/// nothing between the digits.
-fn push_hex(alloc: Global, content: &[u8], out: &mut Vec<u8>) -> Result<bool, AllocError>
+/// Appends the bytes that a content in hexadecimal encodes; `false` if it encodes none.
+fn push_hex(alloc: Global, content: &[u8], out: &mut Vec<u8>) -> Result<bool>
     ensures written { IfOk result (λ ok. ok ≡ true → (bytes : List ℕ) × IsHex content.now bytes × (out.new.items ≡ out.old.items ++ bytes)) }
     ensures none { IfOk result (λ ok. ok ≡ false → (bytes : List ℕ) → IsHex content.now bytes → ⊥) }
 {
@@ -74,18 +73,16 @@ fn push_hex(alloc: Global, content: &[u8], out: &mut Vec<u8>) -> Result<bool, Al
 fn to_standard(c: u8) -> u8
     ensures { result ≡ to_standard c }
 {
-    if c == b'-' {
-        b'+'
-    } else if c == b'_' {
-        b'/'
-    } else {
-        c
+    match c {
+        b'-' => b'+',
+        b'_' => b'/',
+        _ => c,
     }
 }
 
-/// `content` without white space, in the standard alphabet.
-fn without_white(alloc: Global, content: &[u8]) -> Result<Vec<u8>, AllocError>
-    ensures { IfOk result (λ v. v.items ≡ map to_standard (filter (λ c. not (is_white c)) content.now)) }
+/// `content` without white space, in the standard alphabet, and padded if it had no padding.
+fn standard_text(alloc: Global, content: &[u8]) -> Result<Vec<u8>>
+    ensures { IfOk result (λ v. v.items ≡ base64_text content.now) }
 {
     let mut text = Vec::with_capacity(alloc, content.len())?;
     for c in content {
@@ -93,40 +90,15 @@ fn without_white(alloc: Global, content: &[u8]) -> Result<Vec<u8>, AllocError>
             text.push(to_standard(*c))?;
         }
     }
-    Ok(text)
-}
-
-/// Appends `n` characters `=`.
-fn pad(text: &mut Vec<u8>, n: usize) -> Result<(), AllocError>
-    ensures { OnOk result (text.new.items ≡ text.old.items ++ replicate n 61) }
-{
-    for k in 0..n {
-        text.push(b'=')?;
-    }
-    Ok(())
-}
-
-/// Whether a content in base64 has padding.
-fn is_padded(text: &[u8]) -> bool
-    ensures { result ≡ list_any (λ c. c == 61) text.now }
-{
-    text.iter().any(|c| *c == b'=')
-}
-
-/// `content` without white space, in the standard alphabet, and padded if it had no padding.
-fn standard_text(alloc: Global, content: &[u8]) -> Result<Vec<u8>, AllocError>
-    ensures { IfOk result (λ v. v.items ≡ base64_text content.now) }
-{
-    let mut text = without_white(alloc, content)?;
-    if !is_padded(text.as_slice()) {
+    if !text.as_slice().contains(&b'=') {
         let missing = (4 - text.len() % 4) % 4;
-        pad(&mut text, missing)?;
+        text.resize(text.len() + missing, b'=')?;
     }
     Ok(text)
 }
 
 /// Appends the bytes that a content in base64 encodes; `false` if it encodes none.
-fn push_base64(alloc: Global, content: &[u8], out: &mut Vec<u8>) -> Result<bool, AllocError>
+fn push_base64(alloc: Global, content: &[u8], out: &mut Vec<u8>) -> Result<bool>
     ensures written { IfOk result (λ ok. ok ≡ true → (bytes : List ℕ) × IsBase64 content.now bytes × (out.new.items ≡ out.old.items ++ bytes)) }
     ensures none { IfOk result (λ ok. ok ≡ false → (bytes : List ℕ) → IsBase64 content.now bytes → ⊥) }
 {
@@ -147,23 +119,13 @@ fn push_decoded(
     encoding: Encoding,
     content: &[u8],
     out: &mut Vec<u8>,
-) -> Result<bool, AllocError>
+) -> Result<bool>
     ensures written { IfOk result (λ ok. ok ≡ true → (bytes : List ℕ) × IsEncoded encoding content.now bytes × (out.new.items ≡ out.old.items ++ bytes)) }
     ensures none { IfOk result (λ ok. ok ≡ false → (bytes : List ℕ) → IsEncoded encoding content.now bytes → ⊥) }
 {
     match encoding {
         Encoding::Hex => push_hex(alloc, content, out),
         Encoding::Base64 => push_base64(alloc, content, out),
-    }
-}
-
-/// Why a content is bad that encodes no bytes.
-fn refusal(encoding: Encoding) -> LexReason
-    ensures { result ≡ refusal encoding }
-{
-    match encoding {
-        Encoding::Hex => LexReason::BadHex,
-        Encoding::Base64 => LexReason::BadBase64,
     }
 }
 
@@ -174,16 +136,19 @@ pub fn in_encoding(
     encoding: Encoding,
     tail: &[u8],
     out: &mut Vec<u8>,
-) -> Result<(Front, usize), AllocError>
+) -> Result<(Front, usize)>
     ensures { IfOk result (λ r. (r.1 ≤ length tail.now) × ((a : AnyFront) × IsUnquoted (IsEncoded encoding) (refusal encoding) (take r.1 tail.now) (drop r.1 tail.now) a × ((n : ℕ) → FrontStandsFor r.0 n out.old.items out.new.items a))) }
 {
     let Some(i) = find(b'\'', tail) else {
         return Ok((Front::Bad(LexReason::UnclosedString), tail.len()));
     };
-    let content = front_of(tail, i);
+    let content = &tail[..i];
     let (mark, m) = mark_at(rest_of(tail, i + 1));
     if push_decoded(alloc, encoding, content, out)? {
         return Ok((bytes_front(false, mark), i + 1 + m));
     }
-    Ok((Front::Bad(refusal(encoding)), i + 1 + m))
+    match encoding {
+        Encoding::Hex => Ok((Front::Bad(LexReason::BadHex), i + 1 + m)),
+        Encoding::Base64 => Ok((Front::Bad(LexReason::BadBase64), i + 1 + m)),
+    }
 }

@@ -5,15 +5,14 @@ ghost use Rattle.cborn_lex.specs.Common.{Class, Bytes};
 ghost use Rattle.cborn_lex.specs.Cited.{Front as AnyFront, Bad, marked, is_content, is_unclosed, IsQuoted};
 ghost use Rattle.cborn_lex.specs.devices.Common.{of_quoted, NoText, front_view, FrontStandsFor};
 
+use crate::Result;
 use crate::classes::{Kind, Mark};
 use crate::faults::LexReason;
 use crate::fronts::Front;
 use crate::letters::push_letters;
 use crate::slices::{mark_at, rest_of};
-use std::alloc::AllocError;
 
-/// The offset in `tail` of the closing quote, if there is one. A quote after a backslash closes
-/// nothing.
+/// The offset in `tail` of the first quote that isn't after a backslash, if there is one.
 #[tactic(auto, using(crate::proofs::Contents::Ends::one_more, crate::proofs::Contents::Ends::two_more, crate::proofs::Contents::Ends::ends, crate::proofs::Contents::Ends::ends_escaped))]
 fn content_end(quote: u8, tail: &[u8]) -> Option<usize>
     requires { (quote == 92) ≡ false }
@@ -35,8 +34,7 @@ fn content_end(quote: u8, tail: &[u8]) -> Option<usize>
     None
 }
 
-/// Why a string is bad, and how many bytes of `tail`, which follows its opening quote, it takes
-/// with its indicator.
+/// Why a string is bad, and how many bytes it takes of `tail`, which follows its opening quote.
 #[cold]
 #[inline(never)]
 fn bad_string(quote: u8, tail: &[u8]) -> (LexReason, usize)
@@ -77,7 +75,7 @@ pub fn bytes_front(quoted: bool, mark: Option<Mark>) -> Front
 /// Reads a string after its opening quote, a double or a single one, and appends its bytes to `out`.
 /// Gives its kind, or what is wrong with it, and how many bytes of `tail` it takes. Each quote has a
 /// copy of the code.
-pub fn quoted<const QUOTE: u8>(tail: &[u8], out: &mut Vec<u8>) -> Result<(Front, usize), AllocError>
+pub fn quoted<const QUOTE: u8>(tail: &[u8], out: &mut Vec<u8>) -> Result<(Front, usize)>
     requires { (QUOTE ≡ 34) ⊎ (QUOTE ≡ 39) }
     ensures { IfOk result (λ r. (r.1 ≤ length tail.now) × ((a : AnyFront) × IsQuoted QUOTE (of_quoted QUOTE) (take r.1 tail.now) (drop r.1 tail.now) a × ((n : ℕ) → FrontStandsFor r.0 n out.old.items out.new.items a))) }
 {

@@ -6,13 +6,14 @@ ghost use Rattle.cborn_lex.specs.Common.{ArrayOpen, MapOpen, EmbedClose};
 ghost use Rattle.cborn_lex.specs.Cited.{Front as AnyFront, WhiteSpace, is_white, mark_of, marked, start_of, less, greater, hash, paren_front, IsIndicator, Through, Lacks, ReadsFrom, Reads};
 ghost use Rattle.cborn_lex.specs.devices.Common.{front_view, FrontStandsFor};
 
-use crate::classes::{Kind, Profile};
+use crate::Result;
+use crate::classes::{Kind, Mark, Profile};
 use crate::escaped::quoted;
 use crate::faults::LexReason;
 use crate::integers::{number_at, number_from_digit};
 use crate::keywords::word_at;
-use crate::slices::{begins_with, find, front_of, indicator_len, mark_at, rest_of};
-use std::alloc::{AllocError, Global};
+use crate::slices::{begins_with, find, mark_at, rest_of};
+use std::alloc::Global;
 
 /// What a text begins with.
 #[derive(Clone, Copy)]
@@ -25,8 +26,7 @@ pub enum Front {
     Bad(LexReason),
 }
 
-/// Reads a comment up to the character `end`. If there is none, `unclosed` is what it is up to the
-/// end of the text.
+/// Reads a comment up to the character `end`, or up to the text's end, where it is `unclosed`.
 fn comment(end: u8, tail: &[u8], unclosed: Front) -> (Front, usize)
     ensures within { result.1 ≤ length tail.now }
     ensures reads { (n : ℕ) → ((body : List ℕ) × Through end body (take result.1 tail.now) × (front_view n [] result.0 ≡ WhiteSpace)) ⊎ (Lacks end (take result.1 tail.now) (drop result.1 tail.now) × (front_view n [] result.0 ≡ front_view n [] unclosed)) }
@@ -37,63 +37,26 @@ fn comment(end: u8, tail: &[u8], unclosed: Front) -> (Front, usize)
     }
 }
 
-/// The front of a `[` and its indicator.
-fn array_open(tail: &[u8]) -> (Front, usize)
+/// The front of a bracket, by its first character, and its indicator, which `tail` begins with.
+#[inline(always)]
+fn bracket(first: u8, tail: &[u8]) -> (Front, usize)
     ensures within { result.1 ≤ length tail.now }
     ensures run { IsIndicator (take result.1 tail.now) (drop result.1 tail.now) }
-    ensures front { (n : ℕ) → front_view n [] result.0 ≡ marked ArrayOpen (mark_of (take result.1 tail.now)) }
+    ensures array { (n : ℕ) → first ≡ 91 → front_view n [] result.0 ≡ marked ArrayOpen (mark_of (take result.1 tail.now)) }
+    ensures map { (n : ℕ) → first ≡ 123 → front_view n [] result.0 ≡ marked MapOpen (mark_of (take result.1 tail.now)) }
+    ensures embedded { (n : ℕ) → first ≡ 62 → front_view n [] result.0 ≡ marked EmbedClose (mark_of (take result.1 tail.now)) }
+    ensures paren { (n : ℕ) → first ≡ 40 → front_view n [] result.0 ≡ paren_front (take result.1 tail.now) }
 {
-    match mark_at(tail) {
-        (Some(mark), n) => (Front::Read(Kind::ArrayOpen(mark)), n),
-        (None, n) => (Front::Bad(LexReason::BadIndicator), n),
-    }
-}
-
-/// The front of a `{` and its indicator.
-fn map_open(tail: &[u8]) -> (Front, usize)
-    ensures within { result.1 ≤ length tail.now }
-    ensures run { IsIndicator (take result.1 tail.now) (drop result.1 tail.now) }
-    ensures front { (n : ℕ) → front_view n [] result.0 ≡ marked MapOpen (mark_of (take result.1 tail.now)) }
-{
-    match mark_at(tail) {
-        (Some(mark), n) => (Front::Read(Kind::MapOpen(mark)), n),
-        (None, n) => (Front::Bad(LexReason::BadIndicator), n),
-    }
-}
-
-/// The front of a `>>` and its indicator. `after` follows the second `>`.
-fn embed_close(after: &[u8]) -> (Front, usize)
-    ensures within { result.1 ≤ length after.now }
-    ensures run { IsIndicator (take result.1 after.now) (drop result.1 after.now) }
-    ensures front { (n : ℕ) → front_view n [] result.0 ≡ marked EmbedClose (mark_of (take result.1 after.now)) }
-{
-    match mark_at(after) {
-        (Some(mark), n) => (Front::Read(Kind::EmbedClose(mark)), n),
-        (None, n) => (Front::Bad(LexReason::BadIndicator), n),
-    }
-}
-
-/// The front of a `(` that follows neither a number nor `simple`.
-fn paren(tail: &[u8]) -> (Front, usize)
-    ensures within { result.1 ≤ length tail.now }
-    ensures run { IsIndicator (take result.1 tail.now) (drop result.1 tail.now) }
-    ensures front { (n : ℕ) → front_view n [] result.0 ≡ paren_front (take result.1 tail.now) }
-{
-    let n = indicator_len(tail);
-    (paren_front(front_of(tail, n)), n)
-}
-
-/// What a `(` with the indicator `mark` is.
-fn paren_front(mark: &[u8]) -> Front
-    ensures { (n : ℕ) → front_view n [] result ≡ paren_front mark.now }
-{
-    if mark == b"".as_slice() {
-        Front::Bad(LexReason::UnexpectedCharacter)
-    } else if mark == b"_".as_slice() {
-        Front::Read(Kind::ChunkOpen)
-    } else {
-        Front::Bad(LexReason::BadIndicator)
-    }
+    let (mark, n) = mark_at(tail);
+    let front = match (first, mark) {
+        (b'[', Some(mark)) => Front::Read(Kind::ArrayOpen(mark)),
+        (b'{', Some(mark)) => Front::Read(Kind::MapOpen(mark)),
+        (b'>', Some(mark)) => Front::Read(Kind::EmbedClose(mark)),
+        (b'(', Some(Mark::Endless)) => Front::Read(Kind::ChunkOpen),
+        (b'(', Some(Mark::Absent)) => Front::Bad(LexReason::UnexpectedCharacter),
+        _ => Front::Bad(LexReason::BadIndicator),
+    };
+    (front, n)
 }
 
 /// What a `<` begins.
@@ -114,7 +77,7 @@ fn greater(tail: &[u8]) -> (Front, usize)
     ensures reads { (n : ℕ) (profile : Profile) (c : ℕ) → ReadsFrom greater profile c (take result.1 tail.now) (drop result.1 tail.now) (front_view n [] result.0) }
 {
     if begins_with(b'>', tail) {
-        let (front, n) = embed_close(rest_of(tail, 1));
+        let (front, n) = bracket(b'>', rest_of(tail, 1));
         (front, n + 1)
     } else {
         (Front::Bad(LexReason::UnexpectedCharacter), 0)
@@ -124,14 +87,13 @@ fn greater(tail: &[u8]) -> (Front, usize)
 /// What the first character of `text` begins, which isn't white space, and how many bytes that
 /// takes of what follows it. A number is put into `number`, and the content of a string is appended
 /// to `out`.
-#[inline(always)]
-fn front_by_character(
+pub fn first_of(
     alloc: Global,
     profile: Profile,
     text: &[u8],
     number: &mut u128,
     out: &mut Vec<u8>,
-) -> Result<(Front, usize), AllocError>
+) -> Result<(Front, usize)>
     requires some { 0 < length text.now }
     requires no_white { is_white (slice_index text.now 0) ≡ false }
     ensures { IfOk result (λ r. (r.1 ≤ length (drop 1 text.now)) × ((a : AnyFront) × ReadsFrom (start_of (slice_index text.now 0)) profile (slice_index text.now 0) (take r.1 (drop 1 text.now)) (drop r.1 (drop 1 text.now)) a × FrontStandsFor r.0 number.new out.old.items out.new.items a)) }
@@ -140,8 +102,8 @@ fn front_by_character(
     match text[0] {
         b',' => Ok((Front::Read(Kind::Comma), 0)),
         b':' => Ok((Front::Read(Kind::Colon), 0)),
-        b'[' => Ok(array_open(tail)),
-        b'{' => Ok(map_open(tail)),
+        b'[' => Ok(bracket(b'[', tail)),
+        b'{' => Ok(bracket(b'{', tail)),
         b']' => Ok((Front::Read(Kind::ArrayClose), 0)),
         b'}' => Ok((Front::Read(Kind::MapClose), 0)),
         b')' => Ok((Front::Read(Kind::ParenClose), 0)),
@@ -150,7 +112,7 @@ fn front_by_character(
         b'"' => quoted::<b'"'>(tail, out),
         b'\'' => quoted::<b'\''>(tail, out),
         b'a'..=b'z' | b'A'..=b'Z' => word_at(alloc, text, tail, out),
-        b'(' => Ok(paren(tail)),
+        b'(' => Ok(bracket(b'(', tail)),
         b'<' => Ok(less(tail)),
         b'>' => Ok(greater(tail)),
         b'/' => Ok(comment(b'/', tail, Front::Bad(LexReason::UnclosedComment))),
@@ -168,22 +130,4 @@ fn hash(profile: Profile, tail: &[u8]) -> (Front, usize)
         Profile::One => (Front::Bad(LexReason::UnexpectedCharacter), 0),
         Profile::Two => comment(b'\n', tail, Front::WhiteSpace),
     }
-}
-
-/// What `text` begins with, and how many bytes that takes. Its first character isn't white space. A
-/// number is put into `number`, and the content of a string is appended to `out`.
-#[tactic(auto, using(crate::proofs::WholeTexts::Progress::first_reads))]
-pub fn first_of(
-    alloc: Global,
-    profile: Profile,
-    text: &[u8],
-    number: &mut u128,
-    out: &mut Vec<u8>,
-) -> Result<(Front, usize), AllocError>
-    requires some { 0 < length text.now }
-    requires no_white { is_white (slice_index text.now 0) ≡ false }
-    ensures { IfOk result (λ r. (0 < r.1) × (r.1 ≤ length text.now) × ((a : AnyFront) × Reads profile (take r.1 text.now) (drop r.1 text.now) a × FrontStandsFor r.0 number.new out.old.items out.new.items a)) }
-{
-    let (front, n) = front_by_character(alloc, profile, text, number, out)?;
-    Ok((front, n + 1))
 }

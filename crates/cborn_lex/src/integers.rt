@@ -8,12 +8,9 @@ ghost use Rattle.cborn_lex.specs.devices.Common.{front_view};
 use crate::classes::{Kind, Mark};
 use crate::faults::LexReason;
 use crate::fronts::Front;
-use crate::slices::{
-    begins_with, begins_with_digit, front_of, has_prefix, is_numeral, mark_at, numeral_len, rest_of,
-};
+use crate::slices::{begins_with, has_prefix, is_numeral, mark_at, numeral_len, rest_of};
 
-/// The value of a digit, from 0 to 9, or of a letter as a digit, from 10 to 35. 36 for any other
-/// character.
+/// The value of a digit, or of a letter as a digit from 10 on. 36 for any other character.
 pub fn digit_of(c: u8) -> u8
     ensures { result ≡ digit_value c }
 {
@@ -55,8 +52,7 @@ fn value(base: u8, ds: &[u8]) -> Result<u128, LexReason>
     Ok(n)
 }
 
-/// The number that `n` and one more digit spell; `None` if it doesn't fit 128 bits. Most numbers
-/// need no test for overflow.
+/// The number that `n` and one more digit spell, if it fits 128 bits. Most need no test for that.
 #[inline(always)]
 fn with_digit(base: u8, n: u128, digit: u8) -> Option<u128>
     ensures { MatchOption result (2 ^ 128 ≤ n * base + digit) (λ m. m ≡ n * base + digit) }
@@ -119,7 +115,7 @@ fn integer(negative: bool, body: &[u8]) -> Result<u128, LexReason>
         } else {
             Err(LexReason::BadNumber)
         }
-    } else if begins_with_digit(body) && has_point_or(b'e', b'E', body) {
+    } else if !body.is_empty() && body[0].is_ascii_digit() && has_point_or(b'e', b'E', body) {
         Err(LexReason::FloatLeftOut)
     } else if negative && has_prefix(b"Infinity", body) {
         Err(LexReason::FloatLeftOut)
@@ -128,8 +124,7 @@ fn integer(negative: bool, body: &[u8]) -> Result<u128, LexReason>
     }
 }
 
-/// Reads an integer of any form, after its minus, and gives how many bytes of `body` it takes. Out
-/// of line, so that the code of the most frequent form stays small.
+/// The same as `integer_at`, of any form, and out of line, as most integers are decimal and short.
 #[tactic(auto, using(crate::proofs::Decimals::digits_pass))]
 #[inline(never)]
 fn any_integer(negative: bool, body: &[u8]) -> (Result<u128, LexReason>, usize)
@@ -139,10 +134,10 @@ fn any_integer(negative: bool, body: &[u8]) -> (Result<u128, LexReason>, usize)
 {
     let digits = digits_len(body);
     if digits > 0 && body[0] != b'0' && !begins_numeral(rest_of(body, digits)) {
-        return (value(10, front_of(body, digits)), digits);
+        return (value(10, &body[..digits]), digits);
     }
     let n = numeral_len(body);
-    (integer(negative, front_of(body, n)), n)
+    (integer(negative, &body[..n]), n)
 }
 
 /// How many decimal digits `tail` begins with.
@@ -188,7 +183,7 @@ pub fn decimal_at(tail: &[u8]) -> Option<(u64, usize)>
     if len == 0 || (len > 1 && tail[0] == b'0') {
         return None;
     }
-    if len < tail.len() && goes_on(tail[len]) {
+    if len < tail.len() && continues_number(tail[len]) {
         return None;
     }
     Some((n, len))
@@ -197,7 +192,7 @@ pub fn decimal_at(tail: &[u8]) -> Option<(u64, usize)>
 /// Whether the character `c`, which is no decimal digit, may be in a number.
 #[tactic(auto, using(crate::proofs::Decimals::letter_numeral))]
 #[inline(always)]
-fn goes_on(c: u8) -> bool
+fn continues_number(c: u8) -> bool
     requires { is_digit c 10 ≡ false }
     ensures { result ≡ is_numeral c }
 {
@@ -231,8 +226,7 @@ fn integer_at(negative: bool, body: &[u8]) -> (Result<u128, LexReason>, usize)
     }
 }
 
-/// The kind of a number, or, if `tagged`, of the number of a tag; or what is wrong with it. If it
-/// is a token, its number is put into `number`.
+/// The front of a number, or, if `tagged`, of a tag's number, which is put into `number`.
 #[inline(always)]
 fn number_front(
     negative: bool,
@@ -243,41 +237,18 @@ fn number_front(
 ) -> Front
     ensures { front_view number.new [] result ≡ number_front negative tagged mark found }
 {
-    match found {
-        Err(reason) => Front::Bad(reason),
-        Ok(n) => match mark {
-            None => Front::Bad(LexReason::BadIndicator),
-            Some(mark) => {
-                *number = n;
-                if tagged {
-                    Front::Read(Kind::TagOpen(mark))
-                } else {
-                    Front::Read(Kind::Number {
-                        negative: negative && n != 0,
-                        mark,
-                    })
-                }
+    match (found, mark) {
+        (Err(reason), _) => Front::Bad(reason),
+        (Ok(_), None) => Front::Bad(LexReason::BadIndicator),
+        (Ok(n), Some(mark)) => {
+            *number = n;
+            if tagged {
+                return Front::Read(Kind::TagOpen(mark));
             }
-        },
+            let negative = negative && n != 0;
+            Front::Read(Kind::Number { negative, mark })
+        }
     }
-}
-
-/// Whether a number is that of a tag: it has no minus, and a `(` follows.
-#[inline(always)]
-fn is_tag(negative: bool, x: &[u8]) -> bool
-    ensures { result ≡ (not negative && begins (λ c. c == 40) x.now) }
-{
-    !negative && begins_with(b'(', x)
-}
-
-/// How many bytes a number of `n` bytes takes with its indicator of `m` bytes, and, if `tagged`,
-/// with the `(` of a tag.
-#[inline(always)]
-fn number_len(n: usize, m: usize, tagged: bool) -> usize
-    requires { (if tagged then n + m + 1 else n + m) < 2 ^ 64 }
-    ensures { result ≡ (if tagged then n + m + 1 else n + m) }
-{
-    if tagged { n + m + 1 } else { n + m }
 }
 
 /// Reads a number, after its minus if it is `negative`. Gives its kind, or what is wrong with it,
@@ -289,9 +260,9 @@ pub fn number_at(negative: bool, body: &[u8], number: &mut u128) -> (Front, usiz
     let (found, n) = integer_at(negative, body);
     let after = rest_of(body, n);
     let (mark, m) = mark_at(after);
-    let tagged = is_tag(negative, rest_of(after, m));
+    let tagged = !negative & begins_with(b'(', rest_of(after, m));
     let front = number_front(negative, tagged, mark, found, number);
-    (front, number_len(n, m, tagged))
+    (front, n + m + tagged as usize)
 }
 
 /// Reads the number without a minus that `text` begins with. Gives its kind, or what is wrong with

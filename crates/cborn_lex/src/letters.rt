@@ -9,6 +9,7 @@ ghost use Rattle.cborn_lex.specs.Cited.{is_escape, escape_code};
 ghost use Rattle.cborn_lex.specs.devices.Common.{escape_of, is_plain, is_special, LettersSoFar, LettersTaken, NoText};
 ghost use Rattle.std.specs.Simd.Lanes.{mask_l};
 
+use crate::Result;
 use crate::slices::rest_of;
 use crate::units::unit_at;
 use std::alloc::AllocError;
@@ -143,7 +144,7 @@ fn push_short_runs(
     from: usize,
     is_dense: bool,
     out: &mut Vec<u8>,
-) -> Result<usize, AllocError>
+) -> Result<usize>
     requires double_or_single { (quote ≡ 34) ⊎ (quote ≡ 39) }
     requires within { from ≤ length tail.now }
     ensures within { IfOk result (λ at. (from ≤ at) × (at ≤ length tail.now)) }
@@ -176,7 +177,7 @@ fn push_short_runs(
 
 /// Appends the plain letters from the offset `at` of `tail` on, and gives how many they are.
 #[inline(always)]
-fn push_run(quote: u8, tail: &[u8], at: usize, out: &mut Vec<u8>) -> Result<usize, AllocError>
+fn push_run(quote: u8, tail: &[u8], at: usize, out: &mut Vec<u8>) -> Result<usize>
     requires { at ≤ length tail.now }
     ensures within { IfOk result (λ n. at + n ≤ length tail.now) }
     ensures plain { IfOk result (λ n. list_all (is_plain quote) (take n (drop at tail.now)) ≡ true) }
@@ -195,10 +196,10 @@ fn push_run(quote: u8, tail: &[u8], at: usize, out: &mut Vec<u8>) -> Result<usiz
     push_long_run(quote, &tail[at..], out)
 }
 
-/// Appends the first `n` of sixteen letters. It copies all sixteen and cuts off the rest. That is
-/// quicker than to copy `n`, since the compiler knows the length of the copy.
+/// Appends the first `n` of sixteen letters: all sixteen, since a copy of known length is quicker, and
+/// then cuts off the rest.
 #[inline(always)]
-fn push_block(tail: &[u8], n: usize, out: &mut Vec<u8>) -> Result<(), AllocError>
+fn push_block(tail: &[u8], n: usize, out: &mut Vec<u8>) -> Result
     requires few { n ≤ 16 }
     requires block { 16 ≤ length tail.now }
     ensures written { OnOk result (out.new.items ≡ out.old.items ++ take n tail.now) }
@@ -213,7 +214,7 @@ fn push_block(tail: &[u8], n: usize, out: &mut Vec<u8>) -> Result<(), AllocError
 /// Appends the plain letters that `tail` begins with, and gives how many they are. It counts them
 /// first, so that an empty buffer takes only the memory that they need.
 #[inline(never)]
-fn push_long_run(quote: u8, tail: &[u8], out: &mut Vec<u8>) -> Result<usize, AllocError>
+fn push_long_run(quote: u8, tail: &[u8], out: &mut Vec<u8>) -> Result<usize>
     ensures within { IfOk result (λ n. n ≤ length tail.now) }
     ensures plain { IfOk result (λ n. list_all (is_plain quote) (take n tail.now) ≡ true) }
     ensures ends { IfOk result (λ n. n < length tail.now → is_plain quote (slice_index tail.now n) ≡ false) }
@@ -229,12 +230,7 @@ fn push_long_run(quote: u8, tail: &[u8], out: &mut Vec<u8>) -> Result<usize, All
 /// and gives the offset after the escape. `None` if the backslash begins no escape.
 #[tactic(auto, using(crate::proofs::Runs::unit_escape, crate::proofs::Runs::escape_within))]
 #[inline(always)]
-fn push_escape(
-    quote: u8,
-    tail: &[u8],
-    at: usize,
-    out: &mut Vec<u8>,
-) -> Result<Option<usize>, AllocError>
+fn push_escape(quote: u8, tail: &[u8], at: usize, out: &mut Vec<u8>) -> Result<Option<usize>>
     requires double_or_single { (quote ≡ 34) ⊎ (quote ≡ 39) }
     requires inside { at < length tail.now }
     requires backslash { slice_index tail.now at ≡ 92 }
@@ -252,15 +248,11 @@ fn push_escape(
         push_char(out, c)?;
         return Ok(Some(at + 6 * c.len_utf16()));
     }
-    if push_short_escape(quote, tail, at, out)? {
-        Ok(Some(at + 2))
-    } else {
-        Ok(None)
-    }
+    Ok(push_short_escape(quote, tail, at, out)?.then_some(at + 2))
 }
 
 /// Appends the character `c` in UTF-8.
-fn push_char(bytes: &mut Vec<u8>, c: char) -> Result<(), AllocError>
+fn push_char(bytes: &mut Vec<u8>, c: char) -> Result
     ensures written { OnOk result (bytes.new.items ≡ bytes.old.items ++ encode_utf8 c) }
     ensures before { take (length bytes.old.items) bytes.new.items ≡ bytes.old.items }
 {
@@ -274,12 +266,7 @@ fn push_char(bytes: &mut Vec<u8>, c: char) -> Result<(), AllocError>
 /// Appends the character of the escape of two characters whose backslash is at the offset `at` of
 /// `tail`. `false`, and nothing is appended, if there is no such escape.
 #[inline(always)]
-fn push_short_escape(
-    quote: u8,
-    tail: &[u8],
-    at: usize,
-    out: &mut Vec<u8>,
-) -> Result<bool, AllocError>
+fn push_short_escape(quote: u8, tail: &[u8], at: usize, out: &mut Vec<u8>) -> Result<bool>
     requires double_or_single { (quote ≡ 34) ⊎ (quote ≡ 39) }
     requires inside { at + 1 < length tail.now }
     ensures escape { IfOk result (λ found. found ≡ true → (c : ℕ) × (escape_of quote (drop (at + 1) tail.now) ≡ Some (c, 2)) × (out.new.items ≡ out.old.items ++ encode_utf8 c)) }
@@ -304,11 +291,8 @@ fn escape_code(quote: u8, second: u8) -> Option<u8>
         return None;
     }
     let c = ESCAPED[second as usize];
-    if c == 0 {
+    if c == 0 || (c == b'\'' && quote != b'\'') {
         return None;
-    }
-    if c == b'\'' {
-        return if quote == b'\'' { Some(c) } else { None };
     }
     Some(c)
 }

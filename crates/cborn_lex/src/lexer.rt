@@ -66,7 +66,7 @@ pub fn token_from(
 /// `Refused` if a lexical fault is next from `at` on, with its offset, in bytes from the start of
 /// the text, and the reason. `OutOfMemory` if memory was refused. After an error a part of a string
 /// may follow what `out` had.
-#[tactic(auto, using(crate::proofs::WholeTexts::Progress::after_white, crate::proofs::WholeTexts::Progress::after_blank, crate::proofs::WholeTexts::Progress::reads_at, crate::proofs::WholeTexts::Progress::then_token, crate::proofs::WholeTexts::Progress::then_stop, crate::proofs::WholeTexts::Progress::then_end))]
+#[tactic(auto, using(crate::proofs::WholeTexts::Progress::after_white, crate::proofs::WholeTexts::Progress::after_blank, crate::proofs::WholeTexts::Progress::reads_at, crate::proofs::WholeTexts::Progress::then_token, crate::proofs::WholeTexts::Progress::then_end))]
 #[inline(always)]
 pub fn next_token(
     alloc: Global,
@@ -86,7 +86,8 @@ pub fn next_token(
         if is_white(bytes[place]) {
             place += 1;
         } else {
-            let (front, n) = first_of(alloc, profile, rest_of(bytes, place), number, out)?;
+            let (front, more) = first_of(alloc, profile, rest_of(bytes, place), number, out)?;
+            let n = more + 1;
             match front {
                 Front::WhiteSpace => {}
                 Front::Read(kind) => return Ok(Some(BareToken {

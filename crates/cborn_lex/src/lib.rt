@@ -74,4 +74,8 @@ pub use integers::decimal_at;
 pub use letters::{plain_run, push_letters};
 pub use lexer::{next_token, token_from, tokens};
 pub use slices::{find, mark_at};
+use std::alloc::AllocError;
 pub use units::{code_at, is_low, unit_at};
+
+/// A result that is an error only where memory is refused, unless it names another error.
+type Result<T = (), E = AllocError> = std::result::Result<T, E>;

@@ -57,22 +57,11 @@ pub fn begins_with(c: u8, x: &[u8]) -> bool
     x.len() > 0 && x[0] == c
 }
 
-/// Whether `x` begins with a decimal digit.
-pub fn begins_with_digit(x: &[u8]) -> bool
-    ensures { result ≡ begins is_ascii_digit x.now }
-{
-    x.len() > 0 && x[0].is_ascii_digit()
-}
-
 /// Whether `x` begins with the bytes `p`.
 pub fn has_prefix(p: &[u8], x: &[u8]) -> bool
     ensures { result ≡ has_prefix p.now x.now }
 {
-    if x.len() < p.len() {
-        x == p
-    } else {
-        &x[..p.len()] == p
-    }
+    x.len() >= p.len() && &x[..p.len()] == p
 }
 
 /// The offset in `tail` of the first byte that is `wanted`, if there is one.
@@ -118,18 +107,6 @@ pub fn numeral_len(tail: &[u8]) -> usize
     tail.len()
 }
 
-/// The length in bytes of the indicator that `tail` begins with, good or bad: of an underscore and
-/// all word characters after it. 0 if there is no underscore.
-pub fn indicator_len(tail: &[u8]) -> usize
-    ensures within { result ≤ length tail.now }
-    ensures run { IsIndicator (take result tail.now) (drop result tail.now) }
-{
-    if tail.len() == 0 || tail[0] != b'_' {
-        return 0;
-    }
-    word_len(&tail[1..]) + 1
-}
-
 /// The encoding indicator that `x` begins with (RFC 8949 section 8.1), and its length in bytes. It
 /// is `Mark::Absent` if `x` begins with no underscore, and `None` if the underscore begins no
 /// indicator.
@@ -145,10 +122,8 @@ pub fn mark_at(x: &[u8]) -> (Option<Mark>, usize)
     underscored_mark(x)
 }
 
-/// The encoding indicator that `x` begins with, whose first byte is an underscore, and its length
-/// in bytes. `None` if the underscore begins no indicator. Out of line, since few tokens have an
-/// indicator.
-#[tactic(auto, using(crate::proofs::TwoParts::long_mark))]
+/// The same as `mark_at` after an underscore, out of line, since few tokens have an indicator.
+#[tactic(auto, using(crate::proofs::TwoParts::long_mark, crate::proofs::TwoParts::underscored))]
 #[inline(never)]
 fn underscored_mark(x: &[u8]) -> (Option<Mark>, usize)
     requires some { 0 < length x.now }
@@ -160,23 +135,14 @@ fn underscored_mark(x: &[u8]) -> (Option<Mark>, usize)
     if x.len() == 1 || !is_word(x[1]) {
         return (Some(Mark::Endless), 1);
     }
-    if x.len() == 2 || !is_word(x[2]) {
-        return (width_of(x[1]), 2);
+    if x.len() > 2 && is_word(x[2]) {
+        return (None, word_len(rest_of(x, 1)) + 1);
     }
-    (None, indicator_len(x))
-}
-
-/// The indicator of an underscore and the character `c`. `None` if there is no such indicator.
-#[inline(always)]
-fn width_of(c: u8) -> Option<Mark>
-    requires word { is_word c ≡ true }
-    ensures { result ≡ mark_of (95 ∷ c ∷ []) }
-{
-    match c {
-        b'0' => Some(Mark::Wide(Width::One)),
-        b'1' => Some(Mark::Wide(Width::Two)),
-        b'2' => Some(Mark::Wide(Width::Four)),
-        b'3' => Some(Mark::Wide(Width::Eight)),
-        _ => None,
+    match x[1] {
+        b'0' => (Some(Mark::Wide(Width::One)), 2),
+        b'1' => (Some(Mark::Wide(Width::Two)), 2),
+        b'2' => (Some(Mark::Wide(Width::Four)), 2),
+        b'3' => (Some(Mark::Wide(Width::Eight)), 2),
+        _ => (None, 2),
     }
 }

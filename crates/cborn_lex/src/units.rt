@@ -26,10 +26,8 @@ pub fn code_at(x: &[u8]) -> Option<u32>
     ensures value { result ≡ code_at x.now }
     ensures small { IfSome result (λ n. (n < 65536) × (4 ≤ length x.now)) }
 {
-    if x.len() < 4 {
-        return None;
-    }
-    hex_code(x[0], x[1], x[2], x[3])
+    let [a, b, c, d, ..] = x else { return None };
+    hex_code(*a, *b, *c, *d)
 }
 
 /// The low surrogate of the escape that `x` begins with, if there is one.
@@ -56,20 +54,12 @@ pub fn unit_at(x: &[u8]) -> Option<char>
     ensures two { IfSome result (λ c. 0x1_0000 ≤ c → unit_from (code_at x.now) (drop 4 x.now) ≡ Some (c, 12)) }
 {
     let n = code_at(x)?;
-    if is_high(n) {
+    if 0xD800 <= n && n < 0xDC00 {
         let m = low_code(rest_of(x, 4))?;
         char::from_u32(0x1_0000 + (n - 0xD800) * 0x400 + (m - 0xDC00))
     } else {
         char::from_u32(n)
     }
-}
-
-/// Whether a unit is a high surrogate, the first half of a pair.
-#[inline]
-fn is_high(n: u32) -> bool
-    ensures { result ≡ is_high n }
-{
-    0xD800 <= n && n < 0xDC00
 }
 
 /// Whether a unit is a low surrogate, the second half of a pair.

@@ -1,15 +1,14 @@
 //! Sameness of items (RFC 8949 sections 2, 3.4.3 and 5.6.1). Pairs of maps are looked for one by
 //! one, first at their own index, since most maps that are the same are written in one order.
 
-ghost use Rattle.std.specs.Prelude.{◌≡◌, ◌<◌, ◌≤◌, ◌↔◌};
+ghost use Rattle.std.specs.Prelude.{◌≤◌, ◌↔◌};
 ghost use Rattle.cborn_model.specs.Common.{map, length, IsTrue, MatchOption};
-ghost use Rattle.cborn_model.specs.Bytes.{AreBytes, IsShortest, big_endian};
 ghost use Rattle.cborn_model.specs.ItemView.{item_value, pair_value};
 ghost use Rattle.cborn_model.specs.devices.Pairs.{HasPair, Gives};
 ghost use Rattle.cborn_model.specs.Valid.{IsNew, HasNewKeys, IsProper, AreProper, HasProperPairs};
 ghost use Rattle.cborn_model.specs.Value.{Same, SameValues, dict, values_of, pairs_of};
 
-use crate::{ByteString, Item, Valid};
+use crate::{Item, Valid};
 
 /// Whether two items are the same: integers by their number, arrays by their elements in order,
 /// maps by their pairs in any order (RFC 8949 sections 2, 3.4.3 and 5.6.1). Takes no memory. Maps
@@ -36,7 +35,7 @@ pub(crate) fn same_items(a: &Item, b: &Item) -> bool
                 negative: other_negative,
                 magnitude: other_magnitude,
             },
-        ) => *negative == *other_negative && same_magnitudes(magnitude, other_magnitude),
+        ) => *negative == *other_negative && magnitude.as_slice() == other_magnitude.as_slice(),
         (Item::Bytes(x), Item::Bytes(y)) => x.as_slice() == y.as_slice(),
         (Item::Text(x), Item::Text(y)) => x.as_bytes() == y.as_bytes(),
         (Item::Items(x), Item::Items(y)) => same_arrays(x.as_slice(), y.as_slice()),
@@ -45,15 +44,6 @@ pub(crate) fn same_items(a: &Item, b: &Item) -> bool
         (Item::Simple(m), Item::Simple(n)) => *m == *n,
         _ => false,
     }
-}
-
-/// Whether two magnitudes without leading zeros are the same number.
-fn same_magnitudes(a: &ByteString, b: &ByteString) -> bool
-    requires first { IsShortest a.now }
-    requires second { IsShortest b.now }
-    ensures { IsTrue result ↔ big_endian a.now ≡ big_endian b.now }
-{
-    a.as_slice() == b.as_slice()
 }
 
 #[cycle(same_items)]
@@ -94,8 +84,7 @@ fn same_maps(a: &[(Item, Item)], b: &[(Item, Item)]) -> bool
     true
 }
 
-/// Whether the pair of this key and this value is among `pairs`, of distinct keys. The search
-/// begins at the index `start`.
+/// Whether `pairs`, of distinct keys, have this key with this value. The search begins at `start`.
 #[cycle(same_items)]
 fn has_pair(pairs: &[(Item, Item)], start: usize, key: &Item, value: &Item) -> bool
     requires start { start ≤ length pairs.now }
@@ -105,25 +94,13 @@ fn has_pair(pairs: &[(Item, Item)], start: usize, key: &Item, value: &Item) -> b
     requires keys { HasNewKeys (pairs_of (map pair_value pairs.now)) }
     ensures { IsTrue result ↔ HasPair (item_value key.now, item_value value.now) (map pair_value pairs.now) }
 {
-    match value_from(pairs, start, key) {
-        Some(found) => same_items(value, found),
-        None => false,
-    }
-}
-
-/// The value at a key that is the same as `key`. The search begins at the index `start`, and wraps
-/// around.
-#[cycle(same_items)]
-fn value_from<'a>(pairs: &'a [(Item, Item)], start: usize, key: &Item) -> Option<&'a Item>
-    requires start { start ≤ length pairs.now }
-    requires key { IsProper (item_value key.now) }
-    requires pairs { HasProperPairs (pairs_of (map pair_value pairs.now)) }
-    ensures { MatchOption result (IsNew (item_value key.now) (pairs_of (map pair_value pairs.now))) (λ v. Gives (item_value key.now) (item_value v.now) (map pair_value pairs.now) × IsProper (item_value v.now)) }
-{
     let (before, after) = pairs.split_at(start);
     match value_of(after, key) {
-        Some(found) => Some(found),
-        None => value_of(before, key),
+        Some(found) => same_items(value, found),
+        None => match value_of(before, key) {
+            Some(found) => same_items(value, found),
+            None => false,
+        },
     }
 }
 

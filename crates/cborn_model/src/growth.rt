@@ -5,6 +5,9 @@ ghost use Rattle.cborn_model.specs.Common.{max, [], OnOk, OnErr, vec_len, vec_ca
 
 use std::alloc::AllocError;
 
+/// What a call gives to which memory may be refused.
+pub type Result<T, E = AllocError> = std::result::Result<T, E>;
+
 /// Appends `one`. The capacity starts at one and doubles: most lists of elements, pairs and chunks
 /// are short, and in a deep nest most have a single entry, which then takes no more memory than it
 /// needs.

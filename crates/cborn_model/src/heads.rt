@@ -2,8 +2,8 @@
 //! three bits, and the additional information in its low five: the argument up to 23, for 24 to 27
 //! the [`Width`] of an argument that follows, for 31 an indefinite length.
 
-ghost use Rattle.std.specs.Prelude.{◌≡◌, ◌+◌, ◌*◌, ◌/◌, ◌<◌};
-ghost use Rattle.cborn_model.specs.Heads.{code, major_at, least, is_simple_value};
+ghost use Rattle.std.specs.Prelude.{◌≡◌, ◌↔◌, ◌+◌, ◌*◌, ◌/◌, ◌^◌, ◌≤◌, ◌<◌, ℕ, IsTrue};
+ghost use Rattle.cborn_model.specs.Heads.{code, major_at, WidthFits, holds, least, is_simple_value};
 ghost use Rattle.cborn_model.specs.Partial.{ended_size};
 
 /// The major type of a data item (RFC 8949 section 3.1).
@@ -33,16 +33,7 @@ impl Major {
     pub fn number(self) -> u8
         ensures { result ≡ code self }
     {
-        match self {
-            Major::Unsigned => 0,
-            Major::Negative => 1,
-            Major::ByteString => 2,
-            Major::TextString => 3,
-            Major::Array => 4,
-            Major::Map => 5,
-            Major::Tag => 6,
-            Major::Other => 7,
-        }
+        self as u8
     }
 
     /// The major type with this number; `Other` from 7 on.
@@ -118,9 +109,6 @@ pub enum Size {
 }
 
 impl Width {
-    ghost use Rattle.std.specs.Prelude.{◌≡◌, ◌↔◌, ◌≤◌, ◌<◌, ◌^◌, ℕ, IsTrue};
-    ghost use Rattle.cborn_model.specs.Heads.{WidthFits, holds, least};
-
     /// Whether a head of this width has room for the argument `n`.
     #[inline]
     pub fn holds(self, n: u64) -> bool

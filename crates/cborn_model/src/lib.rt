@@ -49,7 +49,7 @@ mod visitors;
 mod walks;
 
 pub use comparisons::same;
-pub use growth::push_doubling;
+pub use growth::{Result, push_doubling};
 pub use heads::{BREAK, Major, Size, Width, ended_size, is_simple_value, shortest};
 pub use items::{Item, ItemBox, ItemList, PairList};
 pub use limits::Limit;

@@ -107,12 +107,11 @@ fn has_room(node: &Node) -> bool
     ensures { IsTrue result ↔ Fits node.now }
 {
     match &node.form {
-        Form::Uint(width, n) => width.holds(*n),
-        Form::Nint(width, n) => width.holds(*n),
-        Form::Bytes(width, bytes) => width.holds(bytes.as_slice().len() as u64),
-        Form::Text(width, bytes) => width.holds(bytes.as_slice().len() as u64),
-        Form::ByteChunks(chunks) => chunks_fit(chunks),
-        Form::TextChunks(chunks) => chunks_fit(chunks),
+        Form::Uint(width, n) | Form::Nint(width, n) => width.holds(*n),
+        Form::Bytes(width, bytes) | Form::Text(width, bytes) => {
+            width.holds(bytes.as_slice().len() as u64)
+        }
+        Form::ByteChunks(chunks) | Form::TextChunks(chunks) => chunks_fit(chunks),
         Form::Items(size, items) => size_fits(*size, items.len() as u64) && items_have_room(items),
         Form::Pairs(size, pairs) => size_fits(*size, pairs.len() as u64) && pairs_have_room(pairs),
         Form::Tagged(width, n, item) => width.holds(*n) && has_room(item),

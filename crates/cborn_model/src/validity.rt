@@ -1,14 +1,13 @@
 //! Which items are valid, and [`Valid`], an item that is. Texts are UTF-8 by their type.
 
 ghost use Rattle.std.specs.Prelude.{◌≡◌, ◌-◌, ◌^◌, ◌<◌, ◌↔◌};
-ghost use Rattle.cborn_model.specs.Common.{min, map, length, string_bytes, IsTrue, IsUtf8};
-ghost use Rattle.cborn_model.specs.Bytes.{AreBytes, IsShortest};
+ghost use Rattle.cborn_model.specs.Common.{min, map, length, IsTrue};
 ghost use Rattle.cborn_model.specs.ItemView.{item_value, pair_value};
 ghost use Rattle.cborn_model.specs.Value.{values_of, pairs_of};
 ghost use Rattle.cborn_model.specs.Valid.{HasNewKeys, IsProper, AreProper, HasProperPairs, IsValid, value_depth, values_depth, pairs_depth};
 
 use crate::comparisons::value_of;
-use crate::{ByteString, Item, is_simple_value, word_of};
+use crate::{Item, is_simple_value, word_of};
 use std::marker::Model;
 
 /// A valid item (RFC 8949 section 5.3), with a nesting depth of at most 1,024.
@@ -76,9 +75,10 @@ fn is_proper(item: &Item) -> bool
     ensures { IsTrue result ↔ IsProper (item_value item.now) }
 {
     match item {
-        Item::Int { magnitude, .. } => is_proper_magnitude(magnitude),
-        Item::Bytes(bytes) => is_proper_string(bytes),
-        Item::Text(text) => is_proper_text(text),
+        Item::Int { magnitude, .. } => magnitude.as_slice().first() != Some(&0),
+        // each length is in memory
+        Item::Bytes(bytes) => bytes.as_slice().len() < usize::MAX,
+        Item::Text(text) => text.as_str().len() < usize::MAX,
         Item::Items(items) => are_proper(items.as_slice()),
         Item::Pairs(pairs) => {
             let pairs = pairs.as_slice();
@@ -126,29 +126,6 @@ fn has_new_keys(pairs: &[(Item, Item)]) -> bool
         }
         rest = after;
     }
-    true
-}
-
-/// Whether there is no leading zero.
-fn is_proper_magnitude(magnitude: &ByteString) -> bool
-    ensures { IsTrue result ↔ AreBytes magnitude.now × IsShortest magnitude.now × (length magnitude.now < 2 ^ 64) }
-{
-    is_proper_string(magnitude) && magnitude.as_slice().first() != Some(&0)
-}
-
-/// Always true. Reading the length gives the prover the type's bounds.
-fn is_proper_string(bytes: &ByteString) -> bool
-    ensures { IsTrue result ↔ AreBytes bytes.now × (length bytes.now < 2 ^ 64) }
-{
-    let _length = bytes.as_slice().len();
-    true
-}
-
-/// Always true. Reading the length gives the prover the type's bounds.
-fn is_proper_text(text: &String) -> bool
-    ensures { IsTrue result ↔ IsUtf8 (string_bytes text.now) × (length (string_bytes text.now) < 2 ^ 64) }
-{
-    let _length = text.as_str().len();
     true
 }
 

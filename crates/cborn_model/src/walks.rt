@@ -8,7 +8,9 @@ ghost use Rattle.cborn_model.specs.Spelled.{Fits, FitsAll, FitsEntries, ChunksFi
 ghost use Rattle.cborn_model.specs.Partial.{Partial, no_part, put, string_tree, IsFree, chunks_tree, TakesString, Proper, CountFits};
 ghost use Rattle.cborn_model.specs.shared.Walks.{count_of};
 
+use crate::growth::Result;
 use crate::nodes::{Chunk, Form, Node};
+use crate::visitors::StringKind::{OfBytes, OfText};
 use crate::visitors::{StringKind, Visitor};
 use crate::{Size, Width};
 use std::alloc::AllocError;
@@ -28,14 +30,10 @@ pub fn visit_node<V: Visitor>(visitor: &mut V, node: &Node) -> Result<(), AllocE
     match &node.form {
         Form::Uint(width, n) => visitor.integer(place, false, *width, *n),
         Form::Nint(width, n) => visitor.integer(place, true, *width, *n),
-        Form::Bytes(width, bytes) => {
-            visitor.string(place, StringKind::OfBytes, *width, bytes.as_slice())
-        }
-        Form::Text(width, bytes) => {
-            visitor.string(place, StringKind::OfText, *width, bytes.as_slice())
-        }
-        Form::ByteChunks(chunks) => visit_chunks(visitor, place, StringKind::OfBytes, chunks),
-        Form::TextChunks(chunks) => visit_chunks(visitor, place, StringKind::OfText, chunks),
+        Form::Bytes(width, bytes) => visitor.string(place, OfBytes, *width, bytes.as_slice()),
+        Form::Text(width, bytes) => visitor.string(place, OfText, *width, bytes.as_slice()),
+        Form::ByteChunks(chunks) => visit_chunks(visitor, place, OfBytes, chunks),
+        Form::TextChunks(chunks) => visit_chunks(visitor, place, OfText, chunks),
         Form::Items(size, items) => visit_array(visitor, place, *size, items),
         Form::Pairs(size, pairs) => visit_map(visitor, place, *size, pairs),
         Form::Tagged(width, n, item) => {
@@ -49,12 +47,7 @@ pub fn visit_node<V: Visitor>(visitor: &mut V, node: &Node) -> Result<(), AllocE
 
 /// Hands an array to a visitor.
 #[cycle(visit_node)]
-fn visit_array<V: Visitor>(
-    visitor: &mut V,
-    place: u64,
-    size: Size,
-    items: &[Node],
-) -> Result<(), AllocError>
+fn visit_array<V: Visitor>(visitor: &mut V, place: u64, size: Size, items: &[Node]) -> Result<()>
     requires size { SizeFits size (length items.now) }
     requires items { FitsAll (trees items.now) }
     ensures held { OnOk result ((f : Partial) → IsFree f → V.holds visitor.old f no_part → V.holds visitor.new (put f (Items place size (trees items.now))) no_part) }
@@ -74,7 +67,7 @@ fn visit_map<V: Visitor>(
     place: u64,
     size: Size,
     pairs: &[(Node, Node)],
-) -> Result<(), AllocError>
+) -> Result<()>
     requires size { SizeFits size (length pairs.now) }
     requires pairs { FitsEntries (entries pairs.now) }
     ensures held { OnOk result ((f : Partial) → IsFree f → V.holds visitor.old f no_part → V.holds visitor.new (put f (Pairs place size (entries pairs.now))) no_part) }
@@ -107,7 +100,7 @@ fn visit_chunks<V: Visitor>(
     place: u64,
     kind: StringKind,
     chunks: &[Chunk],
-) -> Result<(), AllocError>
+) -> Result<()>
     requires { ChunksFit chunks.now }
     ensures held { OnOk result ((f : Partial) → IsFree f → V.holds visitor.old f no_part → V.holds visitor.new (put f (chunks_tree place kind chunks.now)) no_part) }
     ensures memory { OnErr result V.takes_memory }

@@ -1,10 +1,8 @@
 -- The partial sequence that the visitor which builds nodes holds, as it changes.
 use Rattle.std.specs.Prelude.{◌≡◌, ◌≤◌, ◌∷◌, ◌++◌}
-use Rattle.cborn_wire.proofs.Common.{refl, sym, ap, ◌∙◌, ℕ, List, [], length, map, Option, Some, append-nil, arith, option_to_list, Chunk, Size, Tree, trees, entries, depth_all, FitsAll, IsSpelled, a_map, in_chunks, Partial, top, inside, no_part, chunks_tree, ended_size, Nodes, flat, string_of, within, around, IsHeld}
-use Rattle.cborn_model.specs.declared.visitors.StringKind.{StringKind}
+use Rattle.cborn_wire.proofs.Common.{refl, sym, ap, ◌∙◌, ℕ, List, [], length, Option, Some, append-nil, arith, option_to_list, Size, Tree, trees, entries, depth_all, FitsAll, IsSpelled, a_map, Partial, top, inside, ended_size, flat, within, around, flat_push, paired_with}
 use Rattle.cborn_model.specs.Tree as tree
-use Rattle.cborn_wire.specs.declared.open_nodes.OpenNode.{OpenNode}
-use Rattle.cborn_model.proofs.HandedOver.{flat_push, paired_with, strings}
+use Rattle.cborn_wire.specs.declared.nodes.OpenNode.{OpenNode}
 use Rattle.cborn_wire.specs.devices.OpenNodes.{ended}
 
 pub pair_push : (es : List (Tree × Tree)) (k t : Tree) → flat (es ++ (k, t) ∷ []) ++ [] ≡ (flat es ++ k ∷ []) ++ t ∷ []

@@ -8,47 +8,11 @@ pub use Rattle.std.proofs.lemmas.Result.{err_from_is_err_and, on_ok_weaker}
 pub use Rattle.std.specs.List.{flat_map}
 pub use Rattle.std.specs.Option.{option_to_list, unwrap_or}
 pub use Rattle.std.specs.Prelude.{IsTrue, slice_set}
-pub use Rattle.cborn_model.specs.Bytes.{AreBytes}
-pub use Rattle.cborn_model.specs.Heads.{Argument, EndlessArgument, Given, SizeFits, WidthFits, argument, code, following, head, information, is_simple_value, least}
-pub use Rattle.cborn_model.specs.Partial.{AreStrings, Ends, Goes, IsAll, IsFree, IsMore, IsString, Opening, Part, Partial, Proper, TakesItem, TakesString, a_map, a_tag, an_array, built, chunks_of, chunks_tree, ended_size, in_chunks, inside, last_key, no_part, paired, part, put, string_tree, top, whole}
-pub use Rattle.cborn_model.specs.Placed.{ChunksPlaced, Placed, PlacedAll, PlacedEntries}
-pub use Rattle.cborn_model.specs.Spelled.{ChunksFit, Fits, FitsAll, FitsEntries, IsSpelled, Wellformed, chunk_bytes, chunks, ending, spelled, spelled_all, spelled_entries, string}
-pub use Rattle.cborn_model.specs.Tree.{ByteChunks, Bytes, Entries, Items, Nint, Pairs, Simple, Tagged, Text, TextChunks, Tree, Trees, Uint, count, count_entries, depth, depth_all, depth_entries, entries, entry, more, no_entry, no_item, trees}
-pub use Rattle.cborn_model.specs.declared.heads.Major.{Major}
-pub use Rattle.cborn_model.specs.declared.heads.Major.TheVariants.{Array, ByteString, Map, Negative, Other, Tag, TextString, Unsigned}
-pub use Rattle.cborn_model.specs.declared.heads.Size.{Size}
-pub use Rattle.cborn_model.specs.declared.heads.Size.TheVariants.{Endless, Fixed}
-pub use Rattle.cborn_model.specs.declared.heads.Width.{Width}
-pub use Rattle.cborn_model.specs.declared.heads.Width.TheVariants.{Direct, Eight, Four, One, Two}
-pub use Rattle.cborn_model.specs.declared.nodes.Chunk.{Chunk}
-pub use Rattle.cborn_model.specs.shared.Runs.{AreShortIntegers, AtKey, InArray, IsInteger, IsShortLeaf, IsShortPair, puts, text_in}
-pub use Rattle.cborn_model.specs.shared.Walks.{flat, string_of}
-pub use Rattle.cborn_wire.specs.Faults.{BeginsHead, Fault, GoesOn, IsReason, IsWellformed, judged}
-pub use Rattle.cborn_wire.specs.Feeding.{Accepts, AreComplete, Feeding, Feeds, Refuses, RunsShort, fresh}
-pub use Rattle.cborn_wire.specs.HeadReading.{ArgumentFits, IsFrontOfHead, IsHeadOf, ReadsHead, count_in, major_at, reason_alone, seen_argument, size_in}
-pub use Rattle.cborn_wire.specs.Places.{all_from, chunks_from, entries_from, placed_from}
-pub use Rattle.cborn_wire.specs.SlotFaults.{SlotRefused, begins_low, needs_item, reason_at, reason_of}
-pub use Rattle.cborn_wire.specs.Slots.{Announces, AreOpen, HeadFits, IsNoString, MayBegin, OfBytes, OfText, Open, OpenContainer, Slot, StringKind, added_depth, announced, beginning, beginnings, chunk, element_or_end, item, key_or_end, major_of, open_depth, opened, opening, slot, slot_in, slot_in_map, value}
-pub use Rattle.cborn_wire.specs.declared.faults.VisitFault.{VisitFault}
-pub use Rattle.cborn_wire.specs.declared.faults.VisitFault.TheVariants.{Memory, Refused}
-pub use Rattle.cborn_wire.specs.declared.faults.WireFault.{WireFault}
-pub use Rattle.cborn_wire.specs.declared.faults.WireReason.{WireReason}
-pub use Rattle.cborn_wire.specs.declared.faults.WireReason.TheVariants.{BadChunk, BadSimple, EndlessNotAllowed, FloatLeftOut, ReservedInfo, TooDeep, Truncated, UnexpectedBreak}
-pub use Rattle.cborn_wire.specs.declared.head_readers.HeadReader.{HeadReader}
-pub use Rattle.cborn_wire.specs.declared.head_readers.PartialHead.{PartialHead}
-pub use Rattle.cborn_wire.specs.declared.heads.Head.{Head}
-pub use Rattle.cborn_wire.specs.declared.heads.HeadRead.TheVariants.{Full}
-pub use Rattle.cborn_wire.specs.declared.item_readers.ItemReader.{ItemReader}
-pub use Rattle.cborn_wire.specs.declared.leaves.GivenHead.{GivenHead}
-pub use Rattle.cborn_wire.specs.declared.levels.Level.{Level}
-pub use Rattle.cborn_wire.specs.declared.levels.LevelKind.{LevelKind}
-pub use Rattle.cborn_wire.specs.declared.nodes.Nodes.{Nodes}
-pub use Rattle.cborn_wire.specs.declared.spellers.OpenSpelling.{OpenSpelling}
-pub use Rattle.cborn_wire.specs.devices.ItemReading.{EndsHeld, IsMade, IsMoved, Took, pending, seen}
-pub use Rattle.cborn_wire.specs.devices.Leaves.{AfterLeaves, IsGiven, IsLeaf, IsLeafOf, TakesHead, TakesRun, content_len, leaf_tree}
-pub use Rattle.cborn_wire.specs.devices.OpenNodes.{IsHeld, around, seen_nodes, seen_string, within}
-pub use Rattle.cborn_wire.specs.shared.Ground.{Ground, IsPlacedOpen, place_of}
-pub use Rattle.cborn_wire.specs.shared.InitialBytes.{EndlessInformation, Info, Next, Now, Reserved, front_reason, head_reason, info_at, info_for, is_always_bounded, is_bad_chunk, is_break, is_container, is_endless_head, is_float, is_of_kind, is_one, is_other, is_reserved}
-pub use Rattle.cborn_wire.specs.shared.Machine.{AtMostOneMore, Failed, Goal, IsReached, Live, State, Stops, Unfinished, after_head, append_trees, argument_of, at_slot, begin_head, content_at, content_of, ended, finished, front, gather, gathered, gathering, held, holding, is_full, nothing, number, partial_bytes, ready_in, run, snoc, start, step, unless, width_bytes}
-pub use Rattle.cborn_wire.specs.shared.Spelling.{IsEnded, IsWritten, container, containers_of, counted, ending_of, entries_in, shape, sized_ending, with_head, written}
-pub use Rattle.cborn_wire.specs.shared.Visiting.{AreFromBytes, IsNoChunkSlot, plain, FailsAs, Here, HereAt, IsFed, IsFresh, IsInput, Keeps, MayEnd, Missing, Reads, ReadsItem, RefusesPiece, Stands, Takes, TakesPiece, announced_nodes, at_none, head_at, input_level, is_array, is_at_key, is_chunks, is_even, kind_at_none, kind_in, lessened, level_in, level_with, levels, may_end, next_head, open_in, parts_of, ready, room_in, seen_head, slot_of, state, unfinished, with_kind, with_part}
+pub use Rattle.cborn_wire.specs.Common.{Accepts, AfterLeaves, Announces, AreBytes, AreComplete, AreFromBytes, AreOpen, AreShortIntegers, AreStrings, Argument, ArgumentFits, Array, AtKey, AtMostOneMore, BadChunk, BadSimple, BeginsHead, ByteChunks, ByteString, Bytes, Chunk, ChunksFit, ChunksPlaced, Direct, Eight, Endless, EndlessArgument, EndlessInformation, EndlessNotAllowed, Ends, EndsHeld, Entries, Failed, FailsAs, Fault, Feeding, Feeds, Fits, FitsAll, FitsEntries, Fixed, FloatLeftOut, Four, Full, Given, GivenHead, Goal, Goes, GoesOn, Ground, Head, HeadFits, HeadReader, Here, HereAt, InArray, Info, IsAll, IsEnded, IsFed, IsFree, IsFresh, IsFrontOfHead, IsGiven, IsHeadOf, IsHeld, IsInput, IsInteger, IsLeaf, IsLeafOf, IsMade, IsMore, IsMoved, IsNoChunkSlot, IsNoString, IsPlacedOpen, IsReached, IsReason, IsShortLeaf, IsShortPair, IsSpelled, IsString, IsWellformed, IsWritten, ItemReader, Items, Keeps, Level, LevelKind, Live, Major, Map, MayBegin, MayEnd, Memory, Missing, Negative, Next, Nint, Nodes, Now, OfBytes, OfText, One, Open, OpenContainer, OpenSpelling, Opening, Other, Pairs, Part, Partial, PartialHead, Placed, PlacedAll, PlacedEntries, Proper, Reads, ReadsHead, ReadsItem, Refused, Refuses, RefusesPiece, Reserved, ReservedInfo, RunsShort, Simple, Size, SizeFits, Slot, SlotRefused, Stands, State, Stops, StringKind, Tag, Tagged, Takes, TakesHead, TakesItem, TakesPiece, TakesRun, TakesString, Text, TextChunks, TextString, TooDeep, Took, Tree, Trees, Truncated, Two, Uint, UnexpectedBreak, Unfinished, Unsigned, VisitFault, Wellformed, Width, WidthFits, WireFault, WireReason, a_map, a_tag, added_depth, after_head, all_from, an_array, announced, announced_nodes, append_trees, argument, argument_of, around, at_none, at_slot, begin_head, beginning, beginnings, begins_low, built, chunk, chunk_bytes, chunks, chunks_from, chunks_of, chunks_tree, code, container, containers_of, content_at, content_len, content_of, count, count_entries, count_in, counted, depth, depth_all, depth_entries, element_or_end, ended, ended_size, ending, ending_of, entries, entries_from, entries_in, entry, finished, flat, following, fresh, front, front_reason, gather, gathered, gathering, head, head_at, head_reason, held, holding, in_chunks, info_at, info_for, information, input_level, inside, is_always_bounded, is_array, is_at_key, is_bad_chunk, is_break, is_chunks, is_container, is_endless_head, is_even, is_float, is_full, is_of_kind, is_one, is_other, is_reserved, is_simple_value, item, judged, key_or_end, kind_at_none, kind_in, last_key, leaf_tree, least, lessened, level_in, level_with, levels, major_at, major_of, may_end, more, needs_item, next_head, no_entry, no_item, no_part, nothing, number, open_depth, open_in, opened, opening, paired, part, partial_bytes, parts_of, pending, place_of, placed_from, plain, put, puts, ready, ready_in, reason_alone, reason_at, reason_of, room_in, run, seen, seen_argument, seen_head, seen_nodes, seen_string, shape, size_in, sized_ending, slot, slot_in, slot_in_map, slot_of, snoc, spelled, spelled_all, spelled_entries, start, state, step, string, string_of, string_tree, text_in, top, trees, unfinished, unless, value, whole, width_bytes, with_head, with_kind, with_part, within, written}
+pub use Rattle.std.proofs.lemmas.Bool.Decides.{nat_tests}
+pub use Rattle.cborn_model.proofs.Numbers.Simples.{least_direct, least_one, simple_fits, simple_value}
+pub use Rattle.std.proofs.lemmas.Grind.{common_steps}
+pub use Rattle.cborn_model.proofs.Listed.Trees.{count-trees, count_entries-entries, trees-injective}
+pub use Rattle.cborn_model.proofs.HandedOver.{flat_push, paired_with, strings, strings_are}
+pub use Rattle.cborn_model.proofs.Bytes.{are_bytes, bytes-append, bytes-left, bytes-right}
+pub use Rattle.cborn_model.proofs.Numbers.OneHead.{append_same}

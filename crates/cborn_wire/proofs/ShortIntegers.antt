@@ -1,8 +1,6 @@
 -- Integers that are told apart by the form of their initial bytes.
 use Rattle.std.specs.Prelude.{◌≡◌, ◌+◌, ◌*◌, ◌/◌, ◌%◌, ◌<◌, ◌≤◌, ◌∷◌, ◌++◌}
-use Rattle.cborn_wire.proofs.Common.{ℕ, zero, suc, inl, inr, List, [], length, take, drop, get_or, refl, sym, ap, ◌∙◌, subst, arith, append_assoc, append-nil, length-append, length-drop, Width, Direct, One, Two, Four, Eight, AreBytes, least, Tree, Uint, Nint, IsInteger, IsShortLeaf, AreShortIntegers, Head, IsHeadOf, Next, info_at, width_bytes, number}
-use Rattle.std.proofs.lemmas.Bool.Decides.{nat_tests}
-use Rattle.cborn_model.proofs.Numbers.Simples.{least_direct, least_one}
+use Rattle.cborn_wire.proofs.Common.{ℕ, zero, suc, inl, inr, List, [], length, take, drop, get_or, refl, sym, ap, ◌∙◌, subst, arith, append_assoc, append-nil, length-append, length-drop, Width, Direct, One, Two, Four, Eight, AreBytes, least, Tree, Uint, Nint, IsInteger, IsShortLeaf, AreShortIntegers, Head, IsHeadOf, Next, info_at, width_bytes, number, nat_tests, least_direct, least_one, common_steps}
 use Rattle.cborn_wire.specs.declared.heads.Argument.TheVariants as arguments
 use Rattle.cborn_wire.specs.devices.ShortIntegers.{IsIntegerForm, top_of}
 use Rattle.cborn_wire.proofs.HeadReading.HeadSteps.{head_front}
@@ -64,15 +62,7 @@ module _ (p : ℕ) where
 -- one more integer
 
 pub integers_more : (p : ℕ) (x y : List ℕ) (ts : List Tree) (t : Tree) → AreShortIntegers p x ts → IsInteger t → IsShortLeaf (p + length x) y t → AreShortIntegers p (x ++ y) (ts ++ t ∷ [])
-integers_more p x y [] t are is short =
-    let none : x ≡ [] = are in (
-      y,
-      [],
-      ap (λ l. l ++ y) none ∙ sym (append-nil y),
-      is,
-      subst (λ n. IsShortLeaf n y t) (omega (arith, ap length none)) short,
-      refl,
-    )
+integers_more p x y [] t are is short = grind (arith, common_steps, nat_tests, append-nil)
 integers_more p x y (u ∷ ts) t (a, b, cut, first, here, are) is short = (
   a,
   b ++ y,

@@ -1,10 +1,7 @@
 -- What the visitor which writes bytes holds, as nodes become whole and containers are opened and ended.
-use Rattle.std.proofs.lemmas.Grind.{common_steps}
-use Rattle.std.proofs.lemmas.Bool.Decides.{nat_tests}
 use Rattle.std.specs.Prelude.{◌≡◌, ◌+◌, ◌*◌, ◌%◌, ◌^◌, ◌<◌, ◌∷◌, ◌++◌, ◌-◌}
-use Rattle.cborn_wire.proofs.Common.{refl, sym, ap, ◌∙◌, subst, ℕ, List, [], length, take, drop, Option, Some, None, arith, append_assoc, append-nil, length-append, take_at, drop_at, get_or, set, get_or-append_seam, set_at, Major, Size, Fixed, Endless, Width, code, Given, head, argument, Tree, trees, ending, spelled, spelled_all, Opening, Partial, inside, put, built, ended_size, IsAll, Ends, announced, OpenSpelling, written, shape, sized_ending, ending_of, counted, containers_of, with_head, entries_in, IsEnded}
+use Rattle.cborn_wire.proofs.Common.{refl, sym, ap, ◌∙◌, subst, ℕ, List, [], length, take, drop, Option, Some, None, arith, append_assoc, append-nil, length-append, take_at, drop_at, get_or, set, get_or-append_seam, set_at, Major, Size, Fixed, Endless, Width, code, head, argument, Tree, trees, ending, spelled, spelled_all, Opening, Partial, inside, put, built, ended_size, IsAll, Ends, announced, OpenSpelling, written, shape, sized_ending, ending_of, counted, containers_of, with_head, entries_in, IsEnded, common_steps, nat_tests, count-trees, count_entries-entries}
 use Rattle.cborn_model.proofs.Lengths.{no_more_nodes}
-use Rattle.cborn_model.proofs.Listed.Trees.{count-trees, count_entries-entries}
 use Rattle.cborn_wire.specs.declared.spellers.Speller.{Speller}
 use Rattle.cborn_wire.specs.shared.Spelling.{Stands}
 use Rattle.cborn_wire.proofs.Machine.Containers.{pair_count, pairs_spelled, built_spelled}
@@ -49,10 +46,8 @@ sized_ended : (m : Major) (s : Size) (c : Option ℕ) (k n : ℕ) (front body x 
 sized_ended m (Fixed w) None k n front body x y count all is done =
     let start = head m (argument (ended_size (Fixed w) None n) n) in
     head_placed m w n (32 * code m + 31) front body x y is (subst (λ j. length front < length x → y ≡ with_head m w j (length front) x) count done) ∙ ap (λ l. front ++ l) (sym (append-nil (start ++ body)))
-sized_ended m (Fixed w) (Some j) k n front body x y count all is done =
-    done ∙ is ∙ ap (λ i. front ++ (head m (Given w i) ++ body)) (sym all) ∙ ap (λ l. front ++ l) (sym (append-nil (head m (Given w n) ++ body)))
-sized_ended m Endless c k n front body x y count all is done =
-    done ∙ ap (λ l. l ++ ending Endless) is ∙ append_assoc front (head m (announced Endless c) ++ body) (ending Endless)
+sized_ended m (Fixed w) (Some j) k n front body x y count all is done = grind (arith, common_steps, nat_tests, append-nil)
+sized_ended m Endless c k n front body x y count all is done = grind (arith, common_steps, nat_tests, append_assoc)
 
 -- Fewer nodes than 2^64 are whole in it, since each has a byte.
 all_counted : (ts : List Tree) (front start x : List ℕ) → length x < 2 ^ 64 → x ≡ front ++ (start ++ spelled_all (trees ts)) → counted (length ts) ≡ length ts

@@ -8,3 +8,4 @@ pub mod Reading
 pub mod HeadReading
 pub mod shared
 pub mod devices
+pub mod Common

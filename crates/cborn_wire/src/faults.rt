@@ -2,7 +2,7 @@
 
 ghost use Rattle.std.specs.Prelude.{◌≡◌};
 ghost use Rattle.cborn_wire.specs.declared.faults.WireFault.TheVariants.{OutOfMemory};
-ghost use Rattle.cborn_wire.specs.declared.faults.VisitFault.TheVariants.{Memory};
+ghost use Rattle.cborn_wire.specs.declared.faults.VisitFault.TheVariants.{Memory, Refused};
 
 use std::alloc::{AllocError, AllocFailed};
 use thiserror::Error;
@@ -58,6 +58,15 @@ pub enum VisitFault {
     /// Memory was refused, to the visitor or for what is open.
     #[error("out of memory")]
     Memory(AllocError),
+}
+
+impl VisitFault {
+    /// The bytes are not well-formed at this place.
+    pub(crate) fn at(place: u64, reason: WireReason) -> VisitFault
+        ensures { result ≡ Refused place reason }
+    {
+        VisitFault::Refused { place, reason }
+    }
 }
 
 impl From<AllocError> for WireFault {

@@ -1,10 +1,13 @@
 //! The [`Feeder`], a reader of input that comes in pieces.
 
-ghost use Rattle.std.specs.Prelude.{◌≡◌, ◌+◌, ◌<◌, ◌^◌, length};
-ghost use Rattle.cborn_wire.specs.devices.ItemReading.{IsMade, Runs};
+ghost use Rattle.std.specs.Prelude.{◌≡◌, ◌+◌, ◌<◌, ◌^◌, length, [], true, false};
+ghost use Rattle.cborn_wire.specs.Common.{IsMade, pending, seen, start, nothing, open_in, seen_nodes};
+ghost use Rattle.cborn_wire.specs.devices.ItemReading.{Runs, ReadsItem};
 
-use crate::item_readers::ItemReader;
-use crate::{WireFault, WireReason};
+use crate::head_readers::{HeadReader, Until};
+use crate::levels::GrownLevels;
+use crate::nodes::Nodes;
+use crate::{VisitFault, WireFault, WireReason};
 use cborn_model::{Limit, Spelled};
 use std::alloc::Global;
 use std::collections::VecDeque;
@@ -43,13 +46,9 @@ impl Feeder {
     ghost use Rattle.std.specs.Prelude.{◌≡◌, ◌+◌, ◌^◌, ◌<◌, ◌++◌, [], length, None, Some, Err, IfOk, OnErr};
     ghost use Rattle.std.specs.Option.{option_to_list};
     ghost use Rattle.std.specs.List.{flat_map};
-    ghost use Rattle.cborn_model.specs.Tree.{trees};
-    ghost use Rattle.cborn_model.specs.Spelled.{spelled, Wellformed};
-    ghost use Rattle.cborn_wire.specs.declared.faults.WireFault.{WireFault};
+    ghost use Rattle.cborn_wire.specs.Common.{trees, spelled, Wellformed, WireFault, Truncated, Fault, fresh, Feeds};
     ghost use Rattle.cborn_wire.specs.declared.faults.WireFault.TheVariants.{Refused};
-    ghost use Rattle.cborn_wire.specs.declared.faults.WireReason.TheVariants.{Truncated};
-    ghost use Rattle.cborn_wire.specs.Faults.{Fault};
-    ghost use Rattle.cborn_wire.specs.Feeding.{fresh, IsFed, Feeds};
+    ghost use Rattle.cborn_wire.specs.Feeding.{IsFed};
 
     /// A feeder that was fed nothing, for the maximum nesting depth `limit`. Takes no memory.
     pub fn new(alloc: Global, limit: Limit) -> Feeder
@@ -131,8 +130,7 @@ impl Feeder {
     }
 }
 
-/// Reads the whole of `piece`, and puts the items that it completes at the end of `ready`; on an
-/// error those before it.
+/// Reads `piece`, and puts the items that it completes, also those before an error, after `ready`.
 fn read_piece(
     reader: &mut ItemReader,
     ready: &mut VecDeque<Spelled>,
@@ -152,4 +150,49 @@ fn read_piece(
         rest = &rest[len..];
     }
     Ok(())
+}
+
+/// Reads items one after another from pieces, and keeps only the item that isn't whole.
+#[derive(Drop)]
+pub(crate) struct ItemReader {
+    pub(crate) heads: HeadReader,
+    pub(crate) levels: GrownLevels,
+    pub(crate) nodes: Nodes,
+}
+
+impl ItemReader {
+    /// A reader of bytes from the offset `at` on. Takes no memory.
+    #[tactic(auto, using(crate::proofs::Feeding::ItemSteps::fresh_made))]
+    pub(crate) fn new(alloc: Global, limit: Limit, at: u64) -> ItemReader
+        ensures made { IsMade result }
+        ensures start { seen [] result ≡ start at }
+        ensures limit { result.heads.limit ≡ limit }
+        ensures at { result.heads.at ≡ at }
+    {
+        ItemReader {
+            heads: HeadReader::new(limit, at),
+            levels: GrownLevels::new(alloc),
+            nodes: Nodes::new(alloc),
+        }
+    }
+
+    /// Reads `piece` up to the end of an item or to its own. Gives the number of bytes that it read, at
+    /// least one if there is one, and the item if it is whole. After an error only the limit is known.
+    #[tactic(auto, using(crate::proofs::Feeding::ItemSteps::fails_item))]
+    pub(crate) fn read_item(&mut self, piece: &[u8]) -> Result<(usize, Option<Spelled>), VisitFault>
+        requires made { IsMade self.old }
+        requires room { self.old.heads.at + length piece.now < 2 ^ 64 }
+        ensures item { ReadsItem piece.now self.old self.new result }
+        ensures limit { self.new.heads.limit ≡ self.old.heads.limit }
+    {
+        let len = self
+            .heads
+            .read(&mut self.levels, &mut self.nodes, piece, Until::Item)?;
+        let Some(node) = self.nodes.take_whole() else {
+            return Ok((len, None));
+        };
+        // The items that were given are counted no more.
+        self.levels.start_anew();
+        Ok((len, Some(Spelled::new(node))))
+    }
 }

@@ -1,11 +1,7 @@
 //! Where the item that starts at an offset ends.
 
 ghost use Rattle.std.specs.Prelude.{◌≡◌, ◌∷◌, ◌++◌, ◌≤◌, ℕ, List, [], None, length, drop, IfOk, IfSome};
-ghost use Rattle.cborn_model.specs.Tree.{Tree, depth};
-ghost use Rattle.cborn_model.specs.Spelled.{spelled, Fits};
-ghost use Rattle.cborn_model.specs.Partial.{top, no_part};
-ghost use Rattle.cborn_wire.specs.Reading.{IsFirstItem, EndsItem};
-ghost use Rattle.cborn_wire.specs.devices.ItemReading.{EndsHeld};
+ghost use Rattle.cborn_wire.specs.Common.{Tree, depth, spelled, Fits, top, no_part, IsFirstItem, EndsItem, EndsHeld};
 
 use crate::head_readers::{HeadReader, Until};
 use crate::levels::GrownLevels;
@@ -55,10 +51,7 @@ pub(crate) fn visit_item<V: Visitor>(
     let mut levels = GrownLevels::new(alloc);
     match reader.read(&mut levels, visitor, &bytes[start..], Until::Item) {
         Ok(len) if reader.is_whole(&levels) => Ok(Some(start + len)),
-        Ok(_) => Err(VisitFault::Refused {
-            place: bytes.len() as u64,
-            reason: WireReason::Truncated,
-        }),
+        Ok(_) => Err(VisitFault::at(bytes.len() as u64, WireReason::Truncated)),
         Err(why) => Err(why),
     }
 }

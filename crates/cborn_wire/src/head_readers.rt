@@ -1,27 +1,15 @@
 //! The [`HeadReader`], which reads heads from bytes that come in pieces.
 
 ghost use Rattle.std.specs.Prelude.{◌≡◌, ◌∷◌, ◌+◌, ◌/◌, ◌%◌, ◌++◌, ◌<◌, ◌≤◌, ◌^◌, ℕ, List, [], length, take, nat_le, true, false, None, MatchResult, IfOk, Err, ◌⊎◌, alloc_error};
-ghost use Rattle.cborn_model.specs.declared.heads.Width.{Width as Wide};
-ghost use Rattle.cborn_model.specs.declared.visitors.StringKind.{StringKind as Kind};
-ghost use Rattle.cborn_model.specs.Heads.{Given};
-ghost use Rattle.cborn_model.specs.Partial.{Partial, no_part, part, TakesString};
-ghost use Rattle.cborn_wire.specs.declared.faults.VisitFault.TheVariants.{Refused, Memory};
-ghost use Rattle.cborn_wire.specs.declared.faults.WireReason.{WireReason as Reason};
-ghost use Rattle.cborn_wire.specs.Slots.{AreOpen, slot, open_depth};
-ghost use Rattle.cborn_wire.specs.HeadReading.{major_at};
-ghost use Rattle.cborn_wire.specs.shared.InitialBytes.{info_at, head_reason};
-ghost use Rattle.cborn_wire.specs.shared.Machine.{Live, State, IsReached};
-ghost use Rattle.cborn_wire.specs.shared.Visiting.{ready, open_in, state, Keeps, seen_head, Here, IsShort, Takes, TakesPiece, TakesSome, IsFresh, IsFed, MayEnd, Reads, ReadsItem, next_head};
+ghost use Rattle.cborn_wire.specs.Common.{Width as Wide, StringKind as Kind, Given, Partial, no_part, part, TakesString, Refused, Memory, WireReason as Reason, AreOpen, slot, open_depth, major_at, info_at, head_reason, Live, State, IsReached, ready, open_in, state, Keeps, seen_head, Here, IsShort, Takes, TakesPiece, TakesSome, IsFresh, IsFed, MayEnd, Reads, ReadsItem, next_head};
 
-use crate::containers::take_heads;
-use crate::counting::{close_string, take_head};
+use crate::counting::{close_string, take_head, take_heads};
 use crate::heads::{read_number, wide_width};
 use crate::levels::Levels;
 use crate::{Argument, Head, HeadRead, VisitFault, WireReason, read_head};
 use cborn_model::{Limit, Visitor, Width};
 
-/// The front of a head at the offset `place`: its initial byte, and the first `len` of `bytes`,
-/// which are those of its argument.
+/// The front of a head at the offset `place`, with the first `len` of `bytes` of its argument.
 #[derive(Clone, Copy)]
 pub(crate) struct PartialHead {
     pub(crate) place: u64,
@@ -49,7 +37,7 @@ fn refusal<L: Levels>(levels: &L, limit: u64, first: u8) -> Option<WireReason>
     ensures { (f : Partial) → Keeps f (L.outer levels.now) (L.inner levels.now) → AreOpen limit (open_in f) → result ≡ head_reason (slot (open_in f)) (nat_le limit (open_depth (open_in f))) (major_at (first / 32)) (info_at (first % 32)) [] }
 {
     let is_full = levels.count() as u64 >= limit;
-    levels.innermost().slot().refusal(is_full, first)
+    levels.innermost().refusal(is_full, first)
 }
 
 /// How far a [`HeadReader`] reads.
@@ -141,8 +129,7 @@ impl HeadReader {
         Ok(piece.len())
     }
 
-    /// Takes bytes from the front of `piece`, and gives their number: leaves, one after another, or
-    /// else a head, or a part of a head or a string.
+    /// Takes heads, or a part of a head or a string, at the front of `piece`, and gives their length.
     #[tactic(auto, using(crate::proofs::Visiting::Taking::between_here))]
     #[inline(always)]
     fn take<L: Levels, V: Visitor>(

@@ -3,14 +3,7 @@
 
 ghost use Rattle.std.specs.Prelude.{◌≡◌, ◌≤◌, ◌<◌, ◌++◌, ◌+◌, ◌*◌, ◌%◌, [], ◌∷◌, ◌/◌, ℕ, List, length, ◌&&◌, take, MatchOption, OnOk, OnErr};
 ghost use Rattle.std.specs.Int.{w64, from_be_bytes};
-ghost use Rattle.cborn_model.specs.Bytes.{AreBytes};
-ghost use Rattle.cborn_model.specs.Heads.{code, major_at, WidthFits, IsHead, head_bytes};
-ghost use Rattle.cborn_wire.specs.Slots.{major_of};
-ghost use Rattle.cborn_wire.specs.shared.InitialBytes.{Next, EndlessInformation, info_at, is_reserved, is_endless_head, is_always_bounded, is_break, is_other, is_float, is_container};
-ghost use Rattle.cborn_wire.specs.shared.Machine.{width_bytes, number};
-ghost use Rattle.cborn_wire.specs.HeadReading.{ReadsHead, reason_alone, seen_argument, size_in, count_in};
-ghost use Rattle.cborn_model.specs.declared.heads.Width.{Width};
-ghost use Rattle.cborn_model.specs.declared.heads.Width.TheVariants.{One};
+ghost use Rattle.cborn_wire.specs.Common.{AreBytes, code, major_at, WidthFits, IsHead, head_bytes, major_of, Next, EndlessInformation, info_at, is_reserved, is_endless_head, is_always_bounded, is_break, is_other, is_float, is_container, width_bytes, number, ReadsHead, reason_alone, seen_argument, size_in, count_in, Width, One};
 
 use crate::WireReason;
 use cborn_model::{Major, Size, StringKind, Width, push_doubling};
@@ -26,23 +19,14 @@ pub enum Argument {
 }
 
 impl Argument {
-    /// How an array or a map with this argument says where it ends.
-    pub(crate) fn size(self) -> Size
-        ensures { result ≡ size_in (seen_argument self) }
+    /// How an array or a map says where it ends, and how many items or pairs it announces.
+    pub(crate) fn size_and_count(self) -> (Size, Option<u64>)
+        ensures size { result.0 ≡ size_in (seen_argument self) }
+        ensures count { result.1 ≡ count_in (seen_argument self) }
     {
         match self {
-            Argument::Given(width, _) => Size::Fixed(width),
-            Argument::Endless => Size::Endless,
-        }
-    }
-
-    /// How many items or pairs an array or a map with this argument announces.
-    pub(crate) fn count(self) -> Option<u64>
-        ensures { result ≡ count_in (seen_argument self) }
-    {
-        match self {
-            Argument::Given(_, count) => Some(count),
-            Argument::Endless => None,
+            Argument::Given(width, count) => (Size::Fixed(width), Some(count)),
+            Argument::Endless => (Size::Endless, None),
         }
     }
 }
@@ -102,10 +86,7 @@ pub fn read_head(bytes: &[u8]) -> HeadRead
     }
     match major {
         Major::Other => read_other(information, rest),
-        _ => {
-            let len = wide_len(information);
-            read_wide(major, wide_width(information), len, rest)
-        }
+        _ => read_wide(major, wide_width(information), rest),
     }
 }
 
@@ -117,24 +98,22 @@ fn head_of(major: Major, argument: Argument) -> Head
     Head { major, argument }
 }
 
-/// Reads a head whose argument is the first `len` bytes of `rest`.
+/// Reads a head whose argument is at the front of `rest`.
 #[tactic(auto, using(cborn_model::proofs::Bytes::are_bytes, crate::proofs::HeadReading::HeadFronts::code_small, crate::proofs::HeadReading::HeadFronts::wide_head))]
 #[inline(always)]
-fn read_wide(major: Major, width: Width, len: usize, rest: &[u8]) -> HeadRead
-    requires { len ≡ width_bytes width }
+fn read_wide(major: Major, width: Width, rest: &[u8]) -> HeadRead
     ensures { (first : ℕ) → first / 32 ≡ code major → info_at (first % 32) ≡ Next width → reason_alone (first ∷ rest.now) ≡ None → ReadsHead (first ∷ rest.now) result }
 {
     match read_number(width, rest) {
         Some(n) => {
             let argument = Argument::Given(width, n);
-            HeadRead::Full(head_of(major, argument), 1 + len)
+            HeadRead::Full(head_of(major, argument), 1 + width_len(width))
         }
         None => HeadRead::Short,
     }
 }
 
-/// Reads a head of major type 7, of a float or a simple value, whose argument follows the initial
-/// byte. A simple value of two bytes is 32 or more (RFC 8949 section 3.3).
+/// Reads the head of a float or of a simple value of two bytes, which is 32 or more (RFC 8949 section 3.3).
 fn read_other(information: u8, rest: &[u8]) -> HeadRead
     requires least { 24 ≤ information }
     requires most { information ≤ 27 }
@@ -145,7 +124,7 @@ fn read_other(information: u8, rest: &[u8]) -> HeadRead
     }
     match rest {
         [0..32, ..] => HeadRead::Bad(WireReason::BadSimple),
-        _ => read_wide(Major::Other, Width::One, 1, rest),
+        _ => read_wide(Major::Other, Width::One, rest),
     }
 }
 
@@ -212,13 +191,6 @@ pub(crate) fn is_float(major: Major, information: u8) -> bool
     major == Major::Other && matches!(information, 25..=27)
 }
 
-/// Whether this is an array, a map or a tag.
-pub(crate) fn is_container(major: Major) -> bool
-    ensures { result ≡ is_container major }
-{
-    matches!(major, Major::Array | Major::Map | Major::Tag)
-}
-
 /// The width of a head with this additional information, from 24 to 27.
 pub(crate) fn wide_width(information: u8) -> Width
     requires least { 24 ≤ information }
@@ -233,18 +205,7 @@ pub(crate) fn wide_width(information: u8) -> Width
     }
 }
 
-/// How many bytes follow an initial byte with this additional information, from 24 to 27.
-#[inline(always)]
-pub(crate) fn wide_len(information: u8) -> usize
-    requires least { 24 ≤ information }
-    requires most { information ≤ 27 }
-    ensures { (width : Width) → info_at information ≡ Next width → result ≡ width_bytes width }
-{
-    1 << (information - 24)
-}
-
-/// The number that the first bytes make, as many as the argument of a head of this width has;
-/// `None` if there are fewer.
+/// The argument of a head of this width, at the front of `bytes`; `None` if it isn't whole.
 pub(crate) fn read_number(width: Width, bytes: &[u8]) -> Option<u64>
     ensures { MatchOption result (length bytes.now < width_bytes width) (λ n. (width_bytes width ≤ length bytes.now) × (n ≡ number width (take (width_bytes width) bytes.now))) }
 {
@@ -286,27 +247,14 @@ pub(crate) fn first_bytes(major: Major, width: Width, n: u64) -> ([u8; 9], usize
     ensures len { result.1 ≤ 9 }
     ensures head { take result.1 result.0 ≡ head_bytes (code major) width n }
 {
-    let mut bytes = [0; 9];
+    let [a, b, c, d, e, f, g, h] = n.to_be_bytes();
     match width {
-        Width::Direct => bytes[0] = major.initial_byte(n as u8),
-        Width::One => {
-            bytes[0] = major.initial_byte(24);
-            bytes[1] = n as u8;
-        }
-        Width::Two => {
-            bytes[0] = major.initial_byte(25);
-            bytes[1..3].copy_from_slice(&(n as u16).to_be_bytes());
-        }
-        Width::Four => {
-            bytes[0] = major.initial_byte(26);
-            bytes[1..5].copy_from_slice(&(n as u32).to_be_bytes());
-        }
-        Width::Eight => {
-            bytes[0] = major.initial_byte(27);
-            bytes[1..9].copy_from_slice(&n.to_be_bytes());
-        }
+        Width::Direct => ([major.initial_byte(n as u8), 0, 0, 0, 0, 0, 0, 0, 0], 1),
+        Width::One => ([major.initial_byte(24), h, 0, 0, 0, 0, 0, 0, 0], 2),
+        Width::Two => ([major.initial_byte(25), g, h, 0, 0, 0, 0, 0, 0], 3),
+        Width::Four => ([major.initial_byte(26), e, f, g, h, 0, 0, 0, 0], 5),
+        Width::Eight => ([major.initial_byte(27), a, b, c, d, e, f, g, h], 9),
     }
-    (bytes, 1 + width_len(width))
 }
 
 /// Appends the head of the major type with the argument `n`, which must fit the width (RFC 8949
@@ -326,8 +274,7 @@ pub fn push_head(out: &mut Vec<u8>, major: Major, width: Width, n: u64) -> Resul
     push_wide_head(out, major, width, n)
 }
 
-/// Appends a head. Out of line, since most heads are one byte. Each width has its own call, so that
-/// no length is known only as the program runs.
+/// Appends a head, out of line, since most heads are one byte. Each width has its own call, for speed.
 #[inline(never)]
 fn push_wide_head(out: &mut Vec<u8>, major: Major, width: Width, n: u64) -> Result<(), AllocError>
     requires { WidthFits width n }

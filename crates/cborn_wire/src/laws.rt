@@ -1,16 +1,8 @@
 //! Laws of the bytes of data items: the contract of each function is a theorem.
 
 ghost use Rattle.std.specs.Prelude.{◌≡◌, ℕ, ◌<◌, ◌≤◌, List, [], ◌++◌, length, ◌⊎◌};
-ghost use Rattle.cborn_model.specs.Bytes.{AreBytes};
-ghost use Rattle.cborn_model.specs.Tree.{Tree, Trees};
-ghost use Rattle.cborn_model.specs.Spelled.{Fits, FitsAll, spelled, spelled_all, Wellformed};
-ghost use Rattle.cborn_model.specs.Placed.{PlacedAll};
-ghost use Rattle.cborn_wire.specs.declared.faults.WireReason.{WireReason};
-ghost use Rattle.cborn_wire.specs.declared.faults.WireReason.TheVariants.{Truncated};
-ghost use Rattle.cborn_wire.specs.Places.{placed_from, all_from};
-ghost use Rattle.cborn_wire.specs.Slots.{Slot, Open};
-ghost use Rattle.cborn_wire.specs.Faults.{IsWellformed, Refused, Fault};
-ghost use Rattle.cborn_wire.specs.SlotFaults.{SlotRefused};
+ghost use Rattle.cborn_wire.specs.Common.{AreBytes, Tree, Trees, Fits, FitsAll, spelled, spelled_all, Wellformed, PlacedAll, WireReason, Truncated, placed_from, all_from, Slot, Open, IsWellformed, Fault, SlotRefused};
+ghost use Rattle.cborn_wire.specs.Faults.{Refused};
 
 /// Bytes have at most one reading: two lists of nodes that both spell them are equal if both begin
 /// at the same offset (`placed`), and else equal but for offsets (`aside`: they are equal once

@@ -1,20 +1,15 @@
 //! Leaves that have one head: integers, simple values of one byte and strings of definite length.
-//! They are taken whole from the front of a piece, one after another.
+//! They are taken whole from the front of a piece, one after another, or several at a time: integers
+//! of an array, and a key with its value.
 
-ghost use Rattle.std.specs.Prelude.{◌≡◌, ◌+◌, ◌<◌, ◌≤◌, ◌/◌, ◌%◌, ◌^◌, ℕ, List, length, take, drop, slice_index, OnOk, OnErr, IfOk, MatchOption, ⊤};
-ghost use Rattle.cborn_model.specs.Bytes.{AreBytes};
-ghost use Rattle.cborn_model.specs.Heads.{WidthFits};
-ghost use Rattle.cborn_model.specs.Partial.{Partial, no_part, put, IsFree};
-ghost use Rattle.cborn_wire.specs.HeadReading.{major_at};
-ghost use Rattle.cborn_wire.specs.devices.Leaves.{IsGiven, IsLeafOf, IsLeaf, content_len, leaf_tree, TakesHead};
-ghost use Rattle.cborn_wire.specs.shared.InitialBytes.{Next, info_at};
-ghost use Rattle.cborn_wire.specs.shared.Visiting.{Keeps};
+ghost use Rattle.std.specs.Prelude.{◌≡◌, ◌+◌, ◌<◌, ◌≤◌, ◌/◌, ◌%◌, ◌^◌, ℕ, List, length, take, drop, slice_index, OnOk, OnErr, IfOk, MatchOption, ⊤, Option, true};
+ghost use Rattle.cborn_wire.specs.Common.{AreBytes, WidthFits, least, Partial, no_part, put, IsFree, major_at, IsGiven, IsLeafOf, IsLeaf, content_len, leaf_tree, TakesHead, TakesRun, Next, info_at, Keeps, is_array, is_at_key, text_in as content_of_text, Level as OneLevel};
 
 use crate::counting::finish;
 use crate::heads::{read_number, width_len};
-use crate::levels::Levels;
-use crate::runs::take_run;
-use cborn_model::{StringKind, Visitor, Width};
+use crate::levels::{Level, Levels};
+use crate::short_integers::integers_at;
+use cborn_model::{LeafPair, StringKind, Visitor, Width, shortest};
 use std::alloc::AllocError;
 
 /// A head with an argument, at the front of some bytes.
@@ -59,8 +54,7 @@ pub(crate) fn given_head(bytes: &[u8]) -> Option<GivenHead>
     }
 }
 
-/// The head with the initial byte `first`, whose argument is at the front of `rest`. At each call the
-/// width is a constant.
+/// The head whose argument is at the front of `rest`. At each call the width is a constant.
 #[tactic(auto, using(crate::proofs::Visiting::Leaves::given_wide))]
 #[inline(always)]
 fn wide_head(first: u8, width: Width, rest: &[u8]) -> Option<GivenHead>
@@ -110,8 +104,7 @@ fn leaf_of(head: GivenHead, bytes: &[u8]) -> Option<Leaf>
     Some(Leaf { head, end })
 }
 
-/// Hands the leaf with this head, at the offset `place`, to a visitor. `bytes` is the content of a
-/// string, and empty of other leaves.
+/// Hands a leaf to a visitor. `bytes` is the content of a string, and empty of other leaves.
 #[tactic(auto, using(crate::proofs::Visiting::Leaves::bytes_are, crate::proofs::Visiting::Leaves::text_is, crate::proofs::Visiting::Leaves::string_free))]
 #[inline(always)]
 pub(crate) fn visit_leaf<V: Visitor>(
@@ -132,12 +125,10 @@ pub(crate) fn visit_leaf<V: Visitor>(
     if head.first >= 224 {
         return visitor.simple(place, head.argument as u8);
     }
-    let kind = if head.first < 96 {
-        StringKind::OfBytes
-    } else {
-        StringKind::OfText
-    };
-    visitor.string(place, kind, head.width, bytes)
+    match head.first < 96 {
+        true => visitor.string(place, StringKind::OfBytes, head.width, bytes),
+        false => visitor.string(place, StringKind::OfText, head.width, bytes),
+    }
 }
 
 /// Takes leaves at the front of `piece`, which begins with this head at the offset `place`: one, or
@@ -169,4 +160,141 @@ pub(crate) fn take_leaves<L: Levels, V: Visitor>(
     levels.add_parts(taken.before_last);
     finish(levels, visitor, place + taken.len as u64)?;
     Ok(taken.len)
+}
+
+/// What was taken of some bytes.
+#[derive(Clone, Copy)]
+pub(crate) struct Taken {
+    /// How many bytes.
+    pub(crate) len: usize,
+    /// How many leaves before the last.
+    pub(crate) before_last: u64,
+}
+
+/// Takes this leaf at the front of `bytes`, with those after it that the visitor takes at a time.
+#[inline(always)]
+pub(crate) fn take_run<V: Visitor>(
+    visitor: &mut V,
+    level: Level,
+    leaf: Leaf,
+    place: u64,
+    bytes: &[u8],
+) -> Result<Taken, AllocError>
+    requires { IsLeafOf bytes.now leaf.head leaf.end }
+    ensures taken { IfOk result (λ t. TakesRun place bytes.now level t.before_last (V.holds visitor.old) (V.holds visitor.new) t.len) }
+    ensures memory { OnErr result V.takes_memory }
+{
+    if let Some(taken) = take_several(visitor, level, leaf, place, bytes)? {
+        return Ok(taken);
+    }
+    visit_leaf(visitor, place, leaf.head, &bytes[leaf.head.len..leaf.end])?;
+    let (len, before_last) = (leaf.end, 0);
+    Ok(Taken { len, before_last })
+}
+
+/// Takes a run of integers, or a key and its value. `None`: the visitor took nothing.
+#[inline(always)]
+fn take_several<V: Visitor>(
+    visitor: &mut V,
+    level: Level,
+    leaf: Leaf,
+    place: u64,
+    bytes: &[u8],
+) -> Result<Option<Taken>, AllocError>
+    requires { IsLeafOf bytes.now leaf.head leaf.end }
+    ensures taken { IfOk result (λ r. MatchOption r (visitor.new ≡ visitor.old) (λ t. TakesRun place bytes.now level t.before_last (V.holds visitor.old) (V.holds visitor.new) t.len)) }
+    ensures memory { OnErr result V.takes_memory }
+{
+    if !V::takes_runs() {
+        return Ok(None);
+    }
+    if level.is_array() {
+        return take_integers(visitor, level, leaf, place, bytes);
+    }
+    if level.is_at_key() {
+        return take_pair(visitor, leaf, place, bytes);
+    }
+    Ok(None)
+}
+
+/// Takes integers of an array. `None`: the visitor took nothing, or there is only one.
+#[inline(always)]
+fn take_integers<V: Visitor>(
+    visitor: &mut V,
+    level: Level,
+    leaf: Leaf,
+    place: u64,
+    bytes: &[u8],
+) -> Result<Option<Taken>, AllocError>
+    requires { is_array level.kind ≡ true }
+    ensures taken { IfOk result (λ r. MatchOption r (visitor.new ≡ visitor.old) (λ t. TakesRun place bytes.now level t.before_last (V.holds visitor.old) (V.holds visitor.new) t.len)) }
+    ensures memory { OnErr result V.takes_memory }
+{
+    // A run is worth to look for where a second integer begins.
+    if leaf.head.first > 63 || leaf.end >= bytes.len() || bytes[leaf.end] > 63 {
+        return Ok(None);
+    }
+    let run = integers_at(bytes, level.room());
+    if run.count < 2 || !visitor.integers(place, run.count, &bytes[..run.len])? {
+        return Ok(None);
+    }
+    let (len, before_last) = (run.len, run.count - 1);
+    Ok(Some(Taken { len, before_last }))
+}
+
+/// Takes a key and the value after it, where both are leaves with the shortest heads.
+#[inline(always)]
+fn take_pair<V: Visitor>(
+    visitor: &mut V,
+    key: Leaf,
+    place: u64,
+    bytes: &[u8],
+) -> Result<Option<Taken>, AllocError>
+    requires { IsLeafOf bytes.now key.head key.end }
+    ensures taken { IfOk result (λ r. MatchOption r (visitor.new ≡ visitor.old) (λ t. (level : OneLevel) → is_at_key level.kind level.missing ≡ true → TakesRun place bytes.now level t.before_last (V.holds visitor.old) (V.holds visitor.new) t.len)) }
+    ensures memory { OnErr result V.takes_memory }
+{
+    let after = &bytes[key.end..];
+    let Some(value) = leaf_at(after) else {
+        return Ok(None);
+    };
+    if !is_short(key.head) || !is_short(value.head) {
+        return Ok(None);
+    }
+    let len = key.end + value.end;
+    let pair = LeafPair {
+        spelled: &bytes[..len],
+        key_len: key.end,
+        key_text: text_in(key.head, &bytes[..key.end]),
+        value_text: text_in(value.head, &after[..value.end]),
+    };
+    if !visitor.pair(place, pair)? {
+        return Ok(None);
+    }
+    let before_last = 1;
+    Ok(Some(Taken { len, before_last }))
+}
+
+/// Whether a head is the shortest.
+#[inline(always)]
+fn is_short(head: GivenHead) -> bool
+    requires { WidthFits head.width head.argument }
+    ensures { result ≡ true → head.width ≡ least head.argument }
+{
+    match head.width {
+        Width::Direct => true,
+        width => width == shortest(head.argument),
+    }
+}
+
+/// The content of the leaf with this head that is spelled so, if it is a text; else nothing.
+#[inline(always)]
+fn text_in(head: GivenHead, spelled: &[u8]) -> &[u8]
+    requires { head.len ≤ length spelled.now }
+    ensures { (place : ℕ) → result.now ≡ content_of_text (leaf_tree place (major_at (head.first / 32)) head.width head.argument (drop head.len spelled.now)) }
+{
+    if head.first < 96 || head.first >= 128 {
+        return &[];
+    }
+    &spelled[head.len..]
 }

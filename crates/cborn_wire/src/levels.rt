@@ -1,14 +1,12 @@
-//! The levels that a reader is inside: of each it keeps only what its next head needs.
+//! The levels that a reader is inside: of each it keeps only what its next head needs; and which initial
+//! bytes are allowed next in the innermost.
 
-ghost use Rattle.std.specs.Prelude.{◌≡◌, ◌∷◌, ◌++◌, ◌-◌, ◌<◌, ℕ, List, [], length, take, slice_index_or, true, false, None, Some, IfOk, OnOk, OnErr};
-ghost use Rattle.cborn_model.specs.Partial.{a_map, an_array, in_chunks};
-ghost use Rattle.cborn_model.specs.declared.heads.Size.{Size};
-ghost use Rattle.cborn_wire.specs.declared.levels.Level.{Level as OneLevel};
-ghost use Rattle.cborn_wire.specs.declared.levels.LevelKind.TheVariants.{Tag};
-ghost use Rattle.cborn_wire.specs.shared.Visiting.{IsInput, at_none, input_level, is_array, is_chunks, is_at_key, lessened, level_in, may_end, parts_of, room_in, seen_slot, slot_of, with_part};
+ghost use Rattle.std.specs.Prelude.{◌≡◌, ◌∷◌, ◌++◌, ◌-◌, ◌<◌, ℕ, List, [], length, take, slice_index_or, true, false, None, Some, IfOk, OnOk, OnErr, ◌%◌, ◌/◌};
+ghost use Rattle.cborn_wire.specs.Common.{a_map, an_array, Size, Slot, Level as OneLevel, IsInput, at_none, input_level, is_array, is_chunks, is_at_key, lessened, level_in, may_end, parts_of, room_in, slot_of, with_part, IsNoChunkSlot, info_at, is_bad_chunk, is_of_kind, head_reason, major_at};
 
-use crate::refusals::Slot;
-use cborn_model::StringKind;
+use crate::WireReason;
+use crate::heads::{is_always_bounded, is_break, is_endless, is_float, is_reserved, major_of};
+use cborn_model::{Major, StringKind};
 use std::alloc::{AllocError, Global};
 
 /// What a level is.
@@ -47,19 +45,18 @@ impl Level {
     pub(crate) fn input() -> Level
         ensures { result ≡ input_level 0 }
     {
-        Level::endless(0, LevelKind::Sequence)
+        Level::new(0, LevelKind::Sequence, 0, 0)
     }
 
-    /// A level that announces no number of parts.
     #[inline(always)]
-    fn endless(place: u64, kind: LevelKind) -> Level
-        ensures { result ≡ record { place = place; kind = kind; argument = 0; missing = 0 } }
+    pub(crate) fn new(place: u64, kind: LevelKind, argument: u64, missing: u64) -> Level
+        ensures { result ≡ record { place = place; kind = kind; argument = argument; missing = missing } }
     {
         Level {
             place,
             kind,
-            argument: 0,
-            missing: 0,
+            argument,
+            missing,
         }
     }
 
@@ -68,14 +65,9 @@ impl Level {
     pub(crate) fn of_array(place: u64, count: Option<u64>) -> Level
         ensures { (s : Size) → result ≡ level_in (an_array place s count) [] }
     {
-        let Some(n) = count else {
-            return Level::endless(place, LevelKind::EndlessArray);
-        };
-        Level {
-            place,
-            kind: LevelKind::Array,
-            argument: n,
-            missing: n,
+        match count {
+            None => Level::new(place, LevelKind::EndlessArray, 0, 0),
+            Some(n) => Level::new(place, LevelKind::Array, n, n),
         }
     }
 
@@ -84,40 +76,11 @@ impl Level {
     pub(crate) fn of_map(place: u64, count: Option<u64>) -> Level
         ensures { (s : Size) → result ≡ level_in (a_map place s count) [] }
     {
-        let Some(n) = count else {
-            return Level::endless(place, LevelKind::EndlessMap);
-        };
-        let kind = if n > 1 << 63 {
-            LevelKind::GreatMap
-        } else {
-            LevelKind::Map
-        };
-        Level {
-            place,
-            kind,
-            argument: n,
-            missing: n.wrapping_add(n),
+        match count {
+            None => Level::new(place, LevelKind::EndlessMap, 0, 0),
+            Some(n) if n > 1 << 63 => Level::new(place, LevelKind::GreatMap, n, n.wrapping_add(n)),
+            Some(n) => Level::new(place, LevelKind::Map, n, n.wrapping_add(n)),
         }
-    }
-
-    /// The tag of this number, of which nothing but its head was read.
-    #[inline(always)]
-    pub(crate) fn of_tag(place: u64, number: u64) -> Level
-        ensures { result ≡ record { place = place; kind = Tag; argument = number; missing = 1 } }
-    {
-        Level {
-            place,
-            kind: LevelKind::Tag,
-            argument: number,
-            missing: 1,
-        }
-    }
-
-    /// A string of indefinite length of which nothing but its head was read.
-    pub(crate) fn of_chunks(place: u64, kind: StringKind) -> Level
-        ensures { result ≡ level_in (in_chunks place kind) [] }
-    {
-        Level::endless(place, LevelKind::Chunks(kind))
     }
 
     /// How many parts are whole, modulo 2^64. Says nothing of a tag.
@@ -131,8 +94,7 @@ impl Level {
         announced.wrapping_sub(self.missing)
     }
 
-    /// Counts one more part, and gives whether it isn't the last. After the last nothing is known of
-    /// the level.
+    /// Counts one more part, and gives whether it isn't the last, after which nothing is known of it.
     #[inline(always)]
     fn add_part(&mut self) -> bool
         ensures more { result ≡ true → with_part self.old ≡ Some self.new }
@@ -208,18 +170,46 @@ impl Level {
         }
     }
 
-    /// What may come next in it.
-    #[inline(always)]
-    pub(crate) fn slot(&self) -> Slot
-        ensures { seen_slot result ≡ slot_of self.now.kind self.now.missing }
+    /// The first reason why a head with this initial byte isn't allowed in it, as far as that byte says.
+    /// `is_full`: as many arrays, maps and tags are open as the limit allows.
+    pub(crate) fn refusal(&self, is_full: bool, first: u8) -> Option<WireReason>
+        ensures { result ≡ head_reason (slot_of self.now.kind self.now.missing) is_full (major_at (first / 32)) (info_at (first % 32)) [] }
     {
-        if let LevelKind::Chunks(kind) = self.kind {
-            return Slot::Chunk(kind);
+        let major = Major::at(first / 32);
+        let information = first % 32;
+        if is_reserved(information) {
+            return Some(WireReason::ReservedInfo);
         }
-        if self.may_end() {
-            return Slot::ItemOrBreak;
+        if is_endless(information) && is_always_bounded(major) {
+            return Some(WireReason::EndlessNotAllowed);
         }
-        Slot::Item
+        if self.is_bad_chunk(major, information) {
+            return Some(WireReason::BadChunk);
+        }
+        if is_break(major, information) && !self.may_end() {
+            return Some(WireReason::UnexpectedBreak);
+        }
+        if is_float(major, information) {
+            return Some(WireReason::FloatLeftOut);
+        }
+        if is_full && matches!(major, Major::Array | Major::Map | Major::Tag) {
+            return Some(WireReason::TooDeep);
+        }
+        None
+    }
+
+    /// Whether it is an indefinite string, and this is neither a break nor one of its chunks.
+    fn is_bad_chunk(&self, major: Major, information: u8) -> bool
+        requires { information < 32 }
+        ensures { result ≡ is_bad_chunk (slot_of self.now.kind self.now.missing) major (info_at information) }
+    {
+        match self.kind {
+            LevelKind::Chunks(kind) => {
+                !is_break(major, information)
+                    && (major != major_of(kind) || is_endless(information))
+            }
+            _ => false,
+        }
     }
 }
 
@@ -351,18 +341,9 @@ impl Levels for GrownLevels {
     fn open(&mut self, level: Level) -> Result<(), AllocError> {
         // Part by part, as it was written a moment ago: to load two parts at once has to wait until both
         // are stored.
-        let Level {
-            place,
-            kind,
-            argument,
-            missing,
-        } = self.inner;
-        self.outer.push(Level {
-            place,
-            kind,
-            argument,
-            missing,
-        })?;
+        let inner = &self.inner;
+        let around = Level::new(inner.place, inner.kind, inner.argument, inner.missing);
+        self.outer.push(around)?;
         self.inner = level;
         Ok(())
     }
@@ -378,7 +359,7 @@ impl Levels for GrownLevels {
 
 /// Levels in a table of fixed size.
 #[derive(Drop)]
-pub(crate) struct LevelTable<const MOST: usize> {
+pub struct LevelTable<const MOST: usize> {
     /// The outermost first. After the innermost come levels that were left, or none.
     levels: [Level; MOST],
     /// How many are around the innermost.
@@ -388,7 +369,7 @@ pub(crate) struct LevelTable<const MOST: usize> {
 
 impl<const MOST: usize> LevelTable<MOST> {
     /// The input, of which nothing was read.
-    pub(crate) fn new() -> Self
+    pub fn new() -> Self
         requires { 0 < MOST }
         ensures { IsInput (⟦<LevelTable<MOST> as Levels>⟧.outer result) (⟦<LevelTable<MOST> as Levels>⟧.inner result) }
     {
@@ -443,4 +424,18 @@ impl<const MOST: usize> Levels for LevelTable<MOST> {
         self.around -= 1;
         true
     }
+}
+
+/// Whether this initial byte alone says that its head is allowed wherever an item is and one more
+/// container may open. That of a simple value, a float or a break doesn't.
+#[inline(always)]
+pub(crate) fn is_plain(first: u8) -> bool
+    ensures endless { result ≡ true → first % 32 ≡ 31 → first < 192 }
+    ensures free { result ≡ true → (s : Slot) → IsNoChunkSlot s → head_reason s false (major_at (first / 32)) (info_at (first % 32)) [] ≡ None }
+{
+    let information = first % 32;
+    if information == 31 {
+        return first >= 64 && first < 192;
+    }
+    information < 28 && first < 224
 }

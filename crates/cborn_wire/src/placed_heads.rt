@@ -36,8 +36,7 @@ pub fn set_head(
     set_wide_head(out, major, least, n, start)
 }
 
-/// Puts a head in the place of a byte, and moves what follows that byte. Out of line, since most
-/// heads are one byte.
+/// What `set_head` does. Out of line, since most heads are one byte.
 #[inline(never)]
 fn set_wide_head(
     out: &mut Vec<u8>,
@@ -66,8 +65,8 @@ fn write_at(start: usize, bytes: &[u8], out: &mut Vec<u8>)
     out[start..start + bytes.len()].copy_from_slice(bytes);
 }
 
-/// Moves the bytes from the offset `from` on by `more` bytes, at most 8. The last bytes are moved
-/// first, so that none is overwritten. The `more` bytes from `from` on then hold anything.
+/// Moves the bytes from the offset `from` on by `more` bytes, the last ones first, so that none is
+/// overwritten. The `more` bytes from `from` on then hold anything.
 #[tactic(auto, using(crate::proofs::Shifting::moved))]
 fn make_room(from: usize, more: usize, out: &mut Vec<u8>) -> Result<(), AllocError>
     requires inside { from ≤ length out.old.items }

@@ -1,13 +1,8 @@
 //! Reading input that is in memory.
 
 ghost use Rattle.std.specs.Prelude.{◌≡◌, ◌+◌, ◌≤◌, ℕ, length, drop, Err, IfOk};
-ghost use Rattle.cborn_model.specs.Tree.{trees};
-ghost use Rattle.cborn_model.specs.Spelled.{Wellformed};
-ghost use Rattle.cborn_model.specs.Placed.{PlacedAll};
+ghost use Rattle.cborn_wire.specs.Common.{trees, Wellformed, PlacedAll, WireReason, Fault, IsFirstItem, ItemFault};
 ghost use Rattle.cborn_wire.specs.declared.faults.WireFault.TheVariants.{Refused};
-ghost use Rattle.cborn_wire.specs.declared.faults.WireReason.{WireReason};
-ghost use Rattle.cborn_wire.specs.Faults.{Fault};
-ghost use Rattle.cborn_wire.specs.Reading.{IsFirstItem, ItemFault};
 
 use crate::first_items::visit_item;
 use crate::nodes::Nodes;

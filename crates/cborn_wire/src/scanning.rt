@@ -1,10 +1,7 @@
 //! Whether bytes are well-formed, and if not, where and why. No item is kept.
 
 ghost use Rattle.std.specs.Prelude.{◌+◌, ◌<◌, ◌≤◌, MatchOption};
-ghost use Rattle.cborn_model.specs.Tree.{Trees};
-ghost use Rattle.cborn_model.specs.Spelled.{Wellformed};
-ghost use Rattle.cborn_model.specs.Placed.{PlacedAll};
-ghost use Rattle.cborn_wire.specs.Faults.{Fault};
+ghost use Rattle.cborn_wire.specs.Common.{Trees, Wellformed, PlacedAll, Fault};
 
 use crate::levels::LevelTable;
 use crate::visits::visit_in;
@@ -21,43 +18,27 @@ impl Visitor for Nothing {
 
     ghost takes_memory = { ⊥ };
 
-    fn integer(
-        &mut self,
-        _place: u64,
-        _negative: bool,
-        _width: Width,
-        _n: u64,
-    ) -> Result<(), AllocError> {
+    fn integer(&mut self, _: u64, _: bool, _: Width, _: u64) -> Result<(), AllocError> {
         Ok(())
     }
 
-    fn simple(&mut self, _place: u64, _n: u8) -> Result<(), AllocError> {
+    fn simple(&mut self, _: u64, _: u8) -> Result<(), AllocError> {
         Ok(())
     }
 
-    fn open_array(
-        &mut self,
-        _place: u64,
-        _size: Size,
-        _count: Option<u64>,
-    ) -> Result<(), AllocError> {
+    fn open_array(&mut self, _: u64, _: Size, _: Option<u64>) -> Result<(), AllocError> {
         Ok(())
     }
 
-    fn open_map(
-        &mut self,
-        _place: u64,
-        _size: Size,
-        _count: Option<u64>,
-    ) -> Result<(), AllocError> {
+    fn open_map(&mut self, _: u64, _: Size, _: Option<u64>) -> Result<(), AllocError> {
         Ok(())
     }
 
-    fn open_tag(&mut self, _place: u64, _width: Width, _n: u64) -> Result<(), AllocError> {
+    fn open_tag(&mut self, _: u64, _: Width, _: u64) -> Result<(), AllocError> {
         Ok(())
     }
 
-    fn open_chunks(&mut self, _place: u64, _kind: StringKind) -> Result<(), AllocError> {
+    fn open_chunks(&mut self, _: u64, _: StringKind) -> Result<(), AllocError> {
         Ok(())
     }
 
@@ -65,17 +46,11 @@ impl Visitor for Nothing {
         Ok(())
     }
 
-    fn open_string(
-        &mut self,
-        _place: u64,
-        _kind: StringKind,
-        _width: Width,
-        _len: u64,
-    ) -> Result<(), AllocError> {
+    fn open_string(&mut self, _: u64, _: StringKind, _: Width, _: u64) -> Result<(), AllocError> {
         Ok(())
     }
 
-    fn part(&mut self, _bytes: &[u8]) -> Result<(), AllocError> {
+    fn part(&mut self, _: &[u8]) -> Result<(), AllocError> {
         Ok(())
     }
 

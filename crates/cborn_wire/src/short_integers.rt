@@ -2,9 +2,7 @@
 //! foretold.
 
 ghost use Rattle.std.specs.Prelude.{◌≡◌, ◌≤◌, ◌<◌, ℕ, List, length, take};
-ghost use Rattle.cborn_model.specs.Tree.{Tree};
-ghost use Rattle.cborn_model.specs.shared.Runs.{IsInteger, IsShortLeaf, AreShortIntegers};
-ghost use Rattle.cborn_wire.specs.devices.ShortIntegers.{IsIntegerForm, top_of};
+ghost use Rattle.cborn_wire.specs.Common.{Tree, IsInteger, IsShortLeaf, AreShortIntegers, IsIntegerForm, top_of};
 
 /// Integers with the shortest heads at the front of some bytes.
 #[derive(Clone, Copy)]
@@ -16,7 +14,7 @@ pub struct Integers {
 }
 
 /// The integers at the front of `bytes` whose heads are the shortest (RFC 8949 section 4.2.1), but at
-/// most `most`. One that begins in the last eight bytes is left out, since [`int_len`] doesn't read
+/// most `most`. One that begins in the last eight bytes is left out, since `int_len` doesn't read
 /// it. Takes no memory.
 pub fn integers_at(bytes: &[u8], most: u64) -> Integers
     ensures len { result.len ≤ length bytes.now }
@@ -33,17 +31,15 @@ pub fn integers_at(bytes: &[u8], most: u64) -> Integers
         rest = &rest[len..];
         count += 1;
     }
-    Integers {
-        count,
-        len: bytes.len() - rest.len(),
-    }
+    let len = bytes.len() - rest.len();
+    Integers { count, len }
 }
 
 /// The length in bytes of the integer at the front of the bytes, if its head is the shortest (RFC 8949
 /// section 4.2.1) and the bytes are nine or more; else 0. No clause says when it is above 0: an item of
 /// which it is 0 is read in another way. Takes no memory.
 #[inline(always)]
-pub fn int_len(bytes: &[u8]) -> usize
+fn int_len(bytes: &[u8]) -> usize
     ensures len { result ≤ length bytes.now }
     ensures integer { 0 < result → (place : ℕ) → (t : Tree) × IsInteger t × IsShortLeaf place (take result bytes.now) t }
 {

@@ -1,12 +1,8 @@
 //! The visitor [`Speller`], which writes the bytes that items spell.
 
 ghost use Rattle.std.specs.Prelude.{◌≡◌, ◌≤◌, ◌++◌, [], ◌∷◌, List, Some, OnOk, IfOk, vec_capacity};
-ghost use Rattle.cborn_model.specs.Heads.{code, WidthFits, head_bytes};
-ghost use Rattle.cborn_model.specs.Tree.{Tree, trees};
-ghost use Rattle.cborn_model.specs.Spelled.{spelled, spelled_all};
-ghost use Rattle.cborn_model.specs.Partial.{Opening, Partial, top, inside, put, no_part, CountFits};
-ghost use Rattle.cborn_wire.specs.shared.Spelling.{shape, ending_of, entries_in, Stands, IsWritten, IsEnded};
-ghost use Rattle.cborn_wire.specs.declared.spellers.OpenSpelling.{OpenSpelling as Container};
+ghost use Rattle.cborn_wire.specs.Common.{code, WidthFits, head_bytes, Tree, trees, spelled, spelled_all, Opening, Partial, top, inside, put, no_part, CountFits, shape, ending_of, entries_in, IsWritten, IsEnded, OpenSpelling as Container};
+ghost use Rattle.cborn_wire.specs.shared.Spelling.{Stands};
 
 use crate::heads::{major_of, push_head};
 use crate::placed_heads::set_head;
@@ -20,8 +16,7 @@ pub(crate) enum Ending {
     Nothing,
     /// The break.
     Break,
-    /// The head of an array or a map, of at least this width, in the place of the byte where it
-    /// starts.
+    /// The head of an array or a map, of at least this width, in the place of the byte at its start.
     Later(Major, Width),
 }
 
@@ -163,8 +158,7 @@ impl Speller {
         Ok(())
     }
 
-    /// Opens a container in the innermost. A size of a fixed width without a number has one byte
-    /// for its head until its end.
+    /// Opens a container. Where its number is to come, its head is one byte until its end.
     #[inline(always)]
     fn open(&mut self, major: Major, size: Size, count: Option<u64>) -> Result<(), AllocError>
         requires { CountFits size count }
@@ -198,52 +192,39 @@ impl Visitor for Speller {
     ghost takes_memory = { Unit {0} };
 
     #[inline(always)]
-    fn integer(
-        &mut self,
-        _place: u64,
-        negative: bool,
-        width: Width,
-        n: u64,
-    ) -> Result<(), AllocError> {
-        let major = if negative {
-            Major::Negative
-        } else {
-            Major::Unsigned
-        };
-        self.push_leaf(major, width, n)
+    fn integer(&mut self, _: u64, negative: bool, width: Width, n: u64) -> Result<(), AllocError> {
+        match negative {
+            true => self.push_leaf(Major::Negative, width, n),
+            false => self.push_leaf(Major::Unsigned, width, n),
+        }
     }
 
     #[inline(always)]
-    fn simple(&mut self, _place: u64, n: u8) -> Result<(), AllocError> {
+    fn simple(&mut self, _: u64, n: u8) -> Result<(), AllocError> {
         let n = u64::from(n);
         self.push_leaf(Major::Other, shortest(n), n)
     }
 
     #[inline(always)]
-    fn open_array(
-        &mut self,
-        _place: u64,
-        size: Size,
-        count: Option<u64>,
-    ) -> Result<(), AllocError> {
+    fn open_array(&mut self, _: u64, size: Size, count: Option<u64>) -> Result<(), AllocError> {
         self.open(Major::Array, size, count)?;
         Ok(())
     }
 
     #[inline(always)]
-    fn open_map(&mut self, _place: u64, size: Size, count: Option<u64>) -> Result<(), AllocError> {
+    fn open_map(&mut self, _: u64, size: Size, count: Option<u64>) -> Result<(), AllocError> {
         self.open(Major::Map, size, count)?;
         Ok(())
     }
 
     #[inline(always)]
-    fn open_tag(&mut self, _place: u64, width: Width, n: u64) -> Result<(), AllocError> {
+    fn open_tag(&mut self, _: u64, width: Width, n: u64) -> Result<(), AllocError> {
         self.open(Major::Tag, Size::Fixed(width), Some(n))?;
         Ok(())
     }
 
     #[inline(always)]
-    fn open_chunks(&mut self, _place: u64, kind: StringKind) -> Result<(), AllocError> {
+    fn open_chunks(&mut self, _: u64, kind: StringKind) -> Result<(), AllocError> {
         self.open(major_of(kind), Size::Endless, None)?;
         Ok(())
     }
@@ -260,7 +241,7 @@ impl Visitor for Speller {
     #[inline(always)]
     fn open_string(
         &mut self,
-        _place: u64,
+        _: u64,
         kind: StringKind,
         width: Width,
         len: u64,

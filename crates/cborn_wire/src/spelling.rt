@@ -1,8 +1,7 @@
 //! Writing the bytes that nodes spell (RFC 8949 sections 3.1 to 3.4).
 
 ghost use Rattle.std.specs.Prelude.{◌≡◌, IfOk};
-ghost use Rattle.cborn_model.specs.Tree.{trees};
-ghost use Rattle.cborn_model.specs.Spelled.{spelled, spelled_all};
+ghost use Rattle.cborn_wire.specs.Common.{trees, spelled, spelled_all};
 
 use crate::Speller;
 use cborn_model::{Spelled, visit_node};

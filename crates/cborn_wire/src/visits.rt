@@ -1,14 +1,7 @@
 //! Handing the items that bytes spell to a visitor.
 
 ghost use Rattle.std.specs.Prelude.{◌≡◌, ◌+◌, ◌<◌, ℕ, List, [], Err, OnOk, ◌⊎◌, alloc_error};
-ghost use Rattle.cborn_model.specs.Tree.{Tree, trees};
-ghost use Rattle.cborn_model.specs.Spelled.{Wellformed};
-ghost use Rattle.cborn_model.specs.Placed.{PlacedAll};
-ghost use Rattle.cborn_model.specs.Partial.{top, no_part};
-ghost use Rattle.cborn_wire.specs.declared.faults.VisitFault.TheVariants.{Refused, Memory};
-ghost use Rattle.cborn_wire.specs.declared.faults.WireReason.{WireReason as Reason};
-ghost use Rattle.cborn_wire.specs.Faults.{Fault};
-ghost use Rattle.cborn_wire.specs.shared.Visiting.{IsInput};
+ghost use Rattle.cborn_wire.specs.Common.{Tree, trees, Wellformed, PlacedAll, top, no_part, Refused, Memory, WireReason as Reason, Fault, IsInput};
 
 use crate::{GrownLevels, HeadReader, Levels, Until, VisitFault, WireReason};
 use cborn_model::{Limit, Visitor};
@@ -52,10 +45,7 @@ pub(crate) fn visit_in<L: Levels, V: Visitor>(
     let mut reader = HeadReader::new(limit, 0);
     match reader.read(levels, visitor, bytes, Until::End) {
         Ok(_) if reader.is_whole(levels) => Ok(()),
-        Ok(_) => Err(VisitFault::Refused {
-            place: bytes.len() as u64,
-            reason: WireReason::Truncated,
-        }),
+        Ok(_) => Err(VisitFault::at(bytes.len() as u64, WireReason::Truncated)),
         Err(fault) => Err(fault),
     }
 }

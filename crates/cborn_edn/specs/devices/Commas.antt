@@ -1,4 +1,4 @@
--- A device of the proofs: how many commas of a tree are directly before a closing bracket, and how many a profile allows. No definition cites it.
+-- A device of the proofs: how many commas of a tree are directly before a closing bracket, how many a profile allows, and which tokens are those of a tree. No definition cites it but those of other devices.
 use Rattle.std.specs.Prelude.{◌≡◌, ℕ, ◌+◌, List}
 use Rattle.cborn_edn.specs.Common.{Profile, One as ProfileOne, Two as ProfileTwo, Token}
 use Rattle.cborn_edn.specs.devices.Syntax.{Item, number, word, tag, simple, string, chunked, array, map, Piece, text, bytes, embedded, Pieces, piece, also, Strings, strings, StringsBefore, no_string, after_strings, Row, row, RowBefore, no_item, after_row, Content, loose, tight, Pairs, pairs, PairsBefore, no_pair, after_pairs, Fields, loose_fields, tight_fields, Input, nothing, items, tokens_of_input}

@@ -1,5 +1,6 @@
 -- Where the second item of an input starts: where the first ends.
 use Rattle.std.specs.Prelude.{◌≡◌, ◌≢◌, ◌+◌, ◌≤◌, ◌∷◌, ◌++◌}
+use Rattle.cborn_judge.proofs.Meaning.Placing.{placed_at}
 use Rattle.cborn_engine.proofs.Common.{refl, ap, ◌∙◌, subst, ℕ, List, [], length, drop, arith, length-append, map, slice_get, is_some, Tree, ByteChunks, TextChunks, Items, Pairs, Tagged, Trees, no_item, more, trees, place, depth, Placed, spelled, spelled_all, Fits, Wellformed, all_from, Profile, kind_of, IsNotation, Spells, SpellsInPlace, SpellsOne, SecondStarts, listed_reading, tree_list, some_bytes, one_front, Kind, length-drop, Some, None, true, false}
 use Rattle.cborn_engine.proofs.Answers.{spells}
 use Rattle.cborn_wire.specs.Reading.{IsFirstItem}
@@ -50,14 +51,6 @@ follows limit x ns end w l e at = let b = begins limit x ns end w l e in go b.fi
     go t [] are long rest = absurd (at (omega (arith, rest)))
     go t (u ∷ us) are long rest = record { first = t; second = u; others = us; are = are; long = long }
 
-placed_there : (t : Tree) (p : ℕ) → Placed p t → place t ≡ p
-placed_there (ByteChunks q cs) p h = h.0
-placed_there (TextChunks q cs) p h = h.0
-placed_there (Items q s ts) p h = h.0
-placed_there (Pairs q s es) p h = h.0
-placed_there (Tagged q w n t) p h = h.0
-placed_there _ p h = h
-
 -- nodes in their places
 pub in_places : (limit : ℕ) (ns : List Tree) (x : List ℕ) → Wellformed limit (trees ns) x → (ms : List Tree) × SpellsInPlace Kind.Wire limit x ms
 in_places limit ns x w = (tree_list (all_from 0 (trees ns)), listed_reading limit 0 (trees ns) x w)
@@ -67,7 +60,7 @@ second_in_bytes limit x ns end w l e at =
     let m = in_places limit ns x w in
     let f = follows limit x m.0 end m.1.0 l e at in
     let spelled : SpellsInPlace Kind.Wire limit x (f.first ∷ f.second ∷ f.others) = subst (SpellsInPlace Kind.Wire limit x) f.are m.1 in
-    record { first = f.first; second = f.second; rest = f.others; spelled = spelled; here = omega (arith, placed_there f.second _ spelled.1.1.0, f.long) }
+    record { first = f.first; second = f.second; rest = f.others; spelled = spelled; here = omega (arith, placed_at f.second _ spelled.1.1.0, f.long) }
 
 -- Well-formed bytes that don't begin with an item hold none.
 pub none_first : (limit : ℕ) (x : List ℕ) (ts : Trees) → limit ≤ 1024 → Wellformed limit ts x → ((t : Tree) (rest : List ℕ) → x ≡ spelled t ++ rest → Fits t → depth t ≤ 1024 → ⊥) → ts ≡ no_item

@@ -1,6 +1,6 @@
 -- What the end of a container, of a string in chunks or of a tag gives.
 use Rattle.std.specs.Prelude.{◌≡◌, ◌+◌, ◌<◌, ◌^◌, ◌++◌, ◌-◌, ◌∷◌, ◌≢◌, ◌⊎◌, ◌≤◌, ◌||◌}
-use Rattle.cborn_judge.proofs.Common.{ℕ, OnOk, Result, on_ok, IsFree, IsHeld, put, no_part, Finds, inl, inr, List, [], length, take, drop, refl, sym, ap, ◌∙◌, subst, arith, true, false, Bool, Option, None, Some, append_assoc, append-nil, length-append, drop_at, take_at, Ordering, AllZip-long, Size, IsLeastHead, Means, IsAll, Tree, Items, trees, array, values_of, value_count, Replaces, IsHeadFront, Coded, AreEncodedAs, IsSound, MeansNothing, values_of_seq, AllZip, StringKind, OfBytes, OfText, EndlessLength, AreBytes, code, joined_chunks, ChunksAreText, AreStrings, chunks_of, chunks_tree, Bytes, Text, Value, bytes, text, FindsDefect, kind_major, bytes-right, Bor, eqb, slice_range, MatchOption, unwrap_or, take_all, Width, BadBignum, IsShortest, big_endian, IsByteString, last_of, Tagged, IsProper, integer, tagged, Det, IsInteger, bignum_tag, LongAt, FlawAt, LooseAt, FindsFlaw, IsEncodedAs, tags, Either, SomeDefect, true≢false, Partial, inside, Ends, Opening, an_array, a_map, a_tag, in_chunks, Mark, Opens, Inner, Stands, marks_of, StandsIn, EndsWell, HasEnded, Encodings, Container, Level, suc, is_some, IsKeyOrder, paired, ended_size, built, flaw_rank, entries, IsEarliestDefect, DescentAt, SizeAt, RepeatFlaw, DuplicateKey, HasRepeat, Row, AreMarked, RowRepeat, AreFilled, RowDescent, FindsDescent, AreArranged, AreRows, IsFront, OwnFlaw, OwnDefect, found_alike, SomeFlaw}
+use Rattle.cborn_judge.proofs.Common.{ℕ, OnOk, Result, on_ok, IsFree, IsHeld, put, no_part, Finds, inl, inr, List, [], length, take, drop, refl, sym, ap, ◌∙◌, subst, arith, true, false, Bool, Option, None, Some, append_assoc, append-nil, length-append, drop_at, take_at, Ordering, AllZip-long, Size, IsLeastHead, Means, IsAll, Tree, Items, trees, array, values_of, value_count, Replaces, IsHeadFront, Coded, AreEncodedAs, IsSound, MeansNothing, values_of_seq, AllZip, StringKind, OfBytes, OfText, AreBytes, code, joined_chunks, ChunksAreText, AreStrings, chunks_of, chunks_tree, Bytes, Text, Value, bytes, text, FindsDefect, kind_major, bytes-right, Bor, eqb, slice_range, MatchOption, unwrap_or, take_all, Width, BadBignum, IsShortest, big_endian, IsByteString, last_of, Tagged, IsProper, integer, tagged, Det, IsInteger, bignum_tag, LongAt, FlawAt, LooseAt, FindsFlaw, IsEncodedAs, tags, Either, SomeDefect, true≢false, Partial, inside, Ends, Opening, an_array, a_map, a_tag, in_chunks, Mark, Opens, Inner, Stands, marks_of, StandsIn, EndsWell, HasEnded, Encodings, Container, Level, suc, is_some, IsKeyOrder, paired, ended_size, built, flaw_rank, entries, IsEarliestDefect, DescentAt, SizeAt, RepeatFlaw, DuplicateKey, HasRepeat, Row, AreMarked, RowRepeat, AreFilled, RowDescent, FindsDescent, AreArranged, AreRows, IsFront, OwnFlaw, OwnDefect, found_alike, SomeFlaw}
 use Rattle.cborn_model.proofs.Listed.Meanings.{all_mean, each_means, are_proper}
 use Rattle.cborn_model.proofs.Listed.Values.{value_count-values_of}
 use Rattle.cborn_judge.specs.devices.Encoders.{Closes}
@@ -33,10 +33,10 @@ headed major n None start x front contents old new e s f l known set =
 -- ---- arrays
 
 module _ (order : List ℕ → List ℕ → Ordering) where
-  array_coded : (p n : ℕ) (s : Size) (ts : List Tree) (h x : List ℕ) → n < 2 ^ 64 → n ≡ length ts → IsLeastHead 4 n h → AreEncodedAs order ts x → Coded order (Items p s (trees ts)) (h ++ x)
-  array_coded p n s ts h x fits e l (vs, m, proper, d) =
+  pub array_encoded : (p n : ℕ) (s : Size) (ts : List Tree) (h x : List ℕ) → n < 2 ^ 64 → n ≡ length ts → IsLeastHead 4 n h → AreEncodedAs order ts x → IsEncodedAs order (Items p s (trees ts)) (h ++ x)
+  array_encoded p n s ts h x fits e l (vs, m, proper, d) =
       let count : n ≡ value_count (values_of vs) = e ∙ sym (AllZip-long Means ts vs m) ∙ sym (value_count-values_of vs) in
-      inl (array (values_of vs), (values_of vs, all_mean ts vs m, refl), (are_proper vs proper, omega arith), (h, x, subst (λ k. IsLeastHead 4 k h) count l, values_of_seq order vs x d, refl))
+      (array (values_of vs), (values_of vs, all_mean ts vs m, refl), (are_proper vs proper, omega arith), (h, x, subst (λ k. IsLeastHead 4 k h) count l, values_of_seq order vs x d, refl))
 
   -- what an array leaves in the buffer
   pub array_ends : (flawed : Bool) (p n start : ℕ) (count : Option ℕ) (s : Size) (ts : List Tree) (x front contents old new : List ℕ) → n < 2 ^ 64 → IsAll count (length ts)
@@ -49,7 +49,7 @@ module _ (order : List ℕ → List ℕ → Ordering) where
   array_ends false p n start count s ts x front contents old new fits all e b f sound good flawed known set =
       let (coded, many) = good refl in
       let (h, least, whole) = headed 4 n count start x front contents old new e b f (subst (IsAll count) (sym many) all) (known refl) (set refl) in
-      (h ++ contents, array_coded p n s ts h contents fits many least coded, whole)
+      (h ++ contents, inl (array_encoded p n s ts h contents fits many least coded), whole)
 
 -- ---- how strings of indefinite length end
 
@@ -79,16 +79,10 @@ chunks_nothing p k ts h1 h2 = grind (arith, bytes_mean, texts_mean)
 pub contents_length : (start content : ℕ) (x front contents old : List ℕ) → old ≡ x ++ (front ++ contents) → start ≡ length x → content ≡ start + length front → length old - content ≡ length contents
 contents_length start content x front contents old e s f = omega (arith, ap length e, length-append x (front ++ contents), length-append front contents)
 
--- the defect of its length
-pub endless_found : (p : ℕ) → FindsDefect (λ q r. (q ≡ p) × (r ≡ EndlessLength)) (Some (record { place = p; reason = EndlessLength }))
-endless_found p = record { is = (refl, refl); first = λ q s d. inr (sym d.0, (let e = d.1 in rw e (omega arith))) }
-
 module _ (order : List ℕ → List ℕ → Ordering) where
   chunks_coded : (p : ℕ) (k : StringKind) (ts : List Tree) (h x : List ℕ) → AreStrings k ts → IsSound false ts → AreBytes x → length x < 2 ^ 64 → x ≡ joined_chunks (chunks_of ts) → IsLeastHead (code (kind_major k)) (length x) h → Coded order (chunks_tree p k (chunks_of ts)) (h ++ x)
   chunks_coded p OfBytes ts h x strings sound all fits e l = inl (bytes x, ap bytes e, (all, fits), (h, l, refl))
-  chunks_coded p OfText ts h x strings (vs, m) all fits e l =
-      let u : ChunksAreText (chunks_of ts) = are_texts ts vs strings m in
-      inl (text x, (u, ap text e), (rw e (joined_text (chunks_of ts) u), fits), (h, l, refl))
+  chunks_coded p OfText ts h x strings (vs, m) all fits e l = grind (arith, are_texts, joined_text)
 
   pub chunks_end : (flawed : Bool) (p n start : ℕ) (k : StringKind) (ts : List Tree) (x front contents old new : List ℕ) → n < 2 ^ 64 → n ≡ length contents → AreStrings k ts
       → old ≡ x ++ (front ++ contents) → start ≡ length x → length front ≡ 1 → AreBytes new → IsSound flawed ts → (flawed ≡ false → contents ≡ joined_chunks (chunks_of ts))

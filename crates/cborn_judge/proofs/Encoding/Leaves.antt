@@ -20,15 +20,7 @@ module _ (order : List ℕ → List ℕ → Ordering) where
 
   -- with the next bytes of its content
   pub written_more : (e n : Encodings) (s : OpenString) (f : Partial) (y h x b : List ℕ) → Written order e s f y h x → n.out.items ≡ e.out.items ++ b → n.innermost ≡ e.innermost → StandsAs order n f y → AreBytes b → Written order n s f y h (x ++ b)
-  written_more e n s f y h x b w out same stands are = record {
-    out = out ∙ ap (λ z. z ++ b) w.out ∙ append_assoc (y ++ h) x b;
-    start = w.start;
-    content = w.content;
-    front = subst (λ l. IsStringFront (is_chunks l) s.kind s.len h) (sym same) w.front;
-    bytes = bytes-append x b w.bytes are;
-    short = w.short;
-    stands = stands;
-  }
+  written_more e n s f y h x b w out same stands are = grind (arith, append_assoc, bytes-append)
 
   pub string_encoded : (p : ℕ) (k : StringKind) (w : Width) (n : ℕ) (h x : List ℕ) → IsStringFront false k n h → length x ≡ n → n < 2 ^ 64 → AreBytes x → IsContent k x → IsEncodedAs order (string_tree p k w x) (h ++ x)
   string_encoded p OfBytes w n h x front len short are content = (bytes x, refl, (are, subst (λ m. m < 2 ^ 64) (sym len) short), (h, subst (λ m. IsStringFront false OfBytes m h) (sym len) front, refl))
@@ -87,9 +79,7 @@ module _ (order : List ℕ → List ℕ → Ordering) where
   finds_fine f t a d none sound g = finds_put order f t a None a d None d none sound (none_first (λ f. (f.place, flaw_rank f.reason)) a) (none_first (λ e. (e.place, defect_rank e.reason)) d) g
 
   pub string_flaw : (p : ℕ) (k : StringKind) (w : Width) (x : List ℕ) (good : Bool) (o : Option SomeFlaw) → IsTrue good ↔ IsContent k x → FindsFlaw (λ q r. (q ≡ p) × (r ≡ NotUtf8) × (good ≡ false)) o → FindsFlaw (Flaw (string_tree p k w x)) o
-  string_flaw p OfBytes w x good o is h =
-      found_alike flaw_rank (λ f. f.place) (λ f. f.reason) (λ q r. (q ≡ p) × (r ≡ NotUtf8) × (good ≡ false)) (Flaw (string_tree p OfBytes w x)) o
-      (λ q r. ((λ b. absurd (true≢false (sym (is.1 tt) ∙ b.2))), (λ f. absurd (subst (λ z. FlawAt z q r) f.1 f.2)))) h
+  string_flaw p OfBytes w x good o is h = grind (arith, found_alike)
   string_flaw p OfText w x good o is h =
       found_alike flaw_rank (λ f. f.place) (λ f. f.reason) (λ q r. (q ≡ p) × (r ≡ NotUtf8) × (good ≡ false)) (Flaw (string_tree p OfText w x)) o
       (λ q r. ((λ b. (Text p w x, refl, (b.0, b.1, λ u. true≢false (sym (is.1 u) ∙ b.2)))), (λ f. let g = subst (λ z. FlawAt z q r) f.1 f.2 in (g.0, g.1, not_good good is g.2)))) h
@@ -111,7 +101,7 @@ module _ (order : List ℕ → List ℕ → Ordering) where
 least_head : (major : ℕ) (w : Width) (n : ℕ) (x : List ℕ) → WidthFits w n → w ≡ least n → head_bytes major w n ≡ x → IsLeastHead major n x
 least_head major w n x fits short e = (subst (λ v. WidthFits v n) short fits, sym e ∙ ap (λ v. head_bytes major v n) short)
 
-integer_text : (t : Tree) → IsInteger t → IsUtf8 (text_in t)
+pub integer_text : (t : Tree) → IsInteger t → IsUtf8 (text_in t)
 integer_text (Uint p w n) i = IsUtf8-nil
 integer_text (Nint p w n) i = IsUtf8-nil
 integer_text t i = absurd i

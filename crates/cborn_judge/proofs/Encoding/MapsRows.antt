@@ -1,6 +1,6 @@
 -- The rows of a map and the pairs of its nodes: which keys are the same, which isn't above the one before it, and what the map is encoded as.
 use Rattle.std.specs.Prelude.{◌≡◌, ◌≢◌, ◌∷◌, ◌++◌, ◌↔◌}
-use Rattle.cborn_judge.proofs.Common.{ℕ, inl, inr, List, [], length, refl, sym, ap, ◌∙◌, subst, arith, None, Ordering, Less, AllZip, IsPermutation-refl, least, IsLeastHead, Means, EntriesMean, IsKeyOrder, Rising, paired, Tree, Pairs, entries, place, IsProper, HasProperPairs, Value, Couples, dict, no_pairs, pair, pair_count, Same, Size, DefectReason, InvalidReason, Det, DetPairs, keys, joined, IsRepeated, HasRepeat, Descends, HasDescent, DescentAt, RepeatFlaw, Row, row_entries, IsSameKey, HasSameKeys, RowRepeat, AreFilled, filled_keys, Falls, HasFall, RowDescent, AreArranged, IsEncodedAs, Coded, AreRows, count_entries-entries, same_of_one, one_of_same, holds_below, counted_pairs, some_bytes}
+use Rattle.cborn_judge.proofs.Common.{ℕ, inl, inr, List, [], length, refl, sym, ap, ◌∙◌, subst, arith, None, Ordering, Less, AllZip, IsPermutation-refl, least, IsLeastHead, Means, EntriesMean, IsKeyOrder, Rising, paired, Tree, Pairs, entries, place, IsProper, HasProperPairs, Value, Couples, dict, no_pairs, pair, pair_count, Size, DefectReason, InvalidReason, Det, DetPairs, keys, joined, IsRepeated, HasRepeat, Descends, HasDescent, DescentAt, RepeatFlaw, Row, row_entries, IsSameKey, HasSameKeys, RowRepeat, AreFilled, filled_keys, Falls, HasFall, RowDescent, AreArranged, IsEncodedAs, Coded, AreRows, count_entries-entries, same_of_one, one_of_same, holds_below, counted_pairs, some_bytes}
 use Rattle.cborn_model.specs.Partial.{last_key}
 use Rattle.cborn_judge.proofs.FirstDefect.{above_by_code}
 use Rattle.cborn_judge.proofs.Meaning.Judging.{new_keys}
@@ -87,10 +87,7 @@ module _ (order : List ℕ → List ℕ → Ordering) where
     -- ---- which keys are the same
 
     same_key : (k n : Tree) (x y : List ℕ) → IsEncodedAs order k x → Coded order n y → (y ≡ x) ↔ MeanSame k n
-    same_key k n x y (a, m, g, d) (inl (c, o, u, e)) = (
-      (λ q. (a, c, m, o, same_of_one order a c x g u d (subst (Det order c) q e))),
-      (λ s. sym (one_of_same order laws a c x y g u (subst (λ z. Same z c) (means_once k s.0 a s.2 m) (subst (Same s.0) (means_once n s.1 c s.3 o) s.4)) d e)),
-    )
+    same_key k n x y (a, m, g, d) (inl (c, o, u, e)) = grind (arith, means_once, one_of_same, same_of_one)
     same_key k n x y (a, m, g, d) (inr (z, none)) = ((λ q. absurd (not_empty a x d (sym q ∙ z))), (λ s. absurd (none s.1 s.3)))
 
     -- a key that means the same as k

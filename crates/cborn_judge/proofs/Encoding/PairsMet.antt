@@ -126,11 +126,7 @@ module _ (b : List ℕ) where
 
   pub ties_all : (ms : List Mark) (p : ℕ) → Met IsTie last_key [] (all_keyed b ms) p ↔ Marks (IsTied (key_of b) ms) p
   ties_all [] p = ((λ h. absurd h), (λ h. absurd h.3))
-  ties_all (m ∷ ms) p =
-      let rest = ties_after m ms p in (
-        (λ h. elim h [ inl i ↦ absurd (i.0 (sym i.1)) | inr i ↦ rest.0 i ]),
-        (λ h. inr (rest.1 h)),
-      )
+  ties_all (m ∷ ms) p = grind (arith, ties_after)
 
   same_there : (k : List ℕ) (ms : List Mark) (p : ℕ) → IsSameKey k (map (row_of b) ms) p ↔ ((z : Mark) × IsIn z ms × (k ≡ key_of b z) × (p ≡ z.0))
   same_there k [] p = ((λ h. absurd h), (λ h. absurd h.1))

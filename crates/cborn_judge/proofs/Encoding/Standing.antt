@@ -114,11 +114,7 @@ joined_row [] r = append-nil (r.1 ++ r.2)
 joined_row (s ∷ rs) r = ap (λ z. (s.1 ++ s.2) ++ z) (joined_row rs r) ∙ sym (append_assoc (s.1 ++ s.2) (joined (row_entries rs)) (r.1 ++ r.2))
 
 marked_key : (p : ℕ) (rs : List Row) (ms : List Mark) (q : ℕ) (x : List ℕ) (s m : ℕ) → AreMarked p rs ms → s ≡ p + length (joined (row_entries rs)) → m ≡ s + length x → AreMarked p (rs ++ (q, x, []) ∷ []) (ms ++ (q, s, m, m) ∷ [])
-marked_key p [] [] q x s m h e f =
-    let a : s ≡ p = omega (arith, e) in
-    let b : m ≡ p + length x = omega (arith, e, f) in
-    let c : m ≡ p + length x + 0 = omega (arith, e, f) in
-    ((λ i. (q, a i, b i, c i)), tt)
+marked_key p [] [] q x s m h e f = grind arith
 marked_key p (r ∷ rs) (n ∷ ms) q x s m h e f =
     let o : s ≡ p + length r.1 + length r.2 + length (joined (row_entries rs)) = omega (arith, e, length-append (r.1 ++ r.2) (joined (row_entries rs)), length-append r.1 r.2) in
     (h.0, marked_key (p + length r.1 + length r.2) rs ms q x s m h.1 o f)
@@ -160,16 +156,7 @@ module _ (order : List ℕ → List ℕ → Ordering) where
 
   -- what came to the contents stands after them
   inner_more : (l m : Level) (o : Opening) (ts us : List Tree) (ms ns : List Mark) (z x : List ℕ) (h : Within l o ts ms z) → Opens m o → m.content ≡ m.start + length h.front → IsSound m.flawed us → Contains order m o us ns (h.contents ++ x) → Within m o us ns (z ++ x)
-  inner_more l m o ts us ms ns z x h opens content sound contains = record {
-    front = h.front;
-    contents = h.contents ++ x;
-    whole = ap (λ y. y ++ x) h.whole ∙ append_assoc h.front h.contents x;
-    opens = opens;
-    begins = h.begins;
-    content = content;
-    sound = sound;
-    contains = contains;
-  }
+  inner_more l m o ts us ms ns z x h opens content sound contains = grind (arith, append_assoc)
 
   contents_short : (l : Level) (o : Opening) (ts : List Tree) (ms : List Mark) (z x : List ℕ) (h : Within l o ts ms z) → length (z ++ x) < 2 ^ 64 → length (h.contents ++ x) < 2 ^ 64
   contents_short l o ts ms z x h k = omega (arith, k, ap length h.whole, length-append h.front h.contents, length-append z x, length-append h.contents x)

@@ -1,6 +1,6 @@
 -- A node has no flaw exactly if it means an item.
 use Rattle.std.specs.Prelude.{◌≡◌, ◌≢◌, ◌⊎◌, ◌∷◌}
-use Rattle.cborn_judge.proofs.Common.{arith, ℕ, inl, inr, List, [], refl, sym, subst, true, false, Bool, IsUtf8, IsUtf8-from_is_utf8, is_utf8-from_IsUtf8, cases_eq, Within, WithinAll, WithinEntries, IsRepeated, HasRepeat, HasBadChunk, FlawAt, Flaw, InvalidReason, NotUtf8, BadBignum, DuplicateKey, Value, Values, Couples, integer, bytes, text, array, dict, tagged, simple, no_values, value, no_pairs, pair, Same, big_endian, IsNew, HasNewKeys, Width, Chunk, Tree, Uint, Nint, Bytes, Text, ByteChunks, TextChunks, Items, Pairs, Tagged, Simple, Trees, no_item, more, Entries, no_entry, entry, place, joined_chunks, IsNumber, IsByteString, ChunksAreText, Means, AllMean, EntriesMean, is_utf8, magnitude_of}
+use Rattle.cborn_judge.proofs.Common.{arith, ℕ, inl, inr, List, [], refl, sym, subst, true, false, Bool, IsUtf8, IsUtf8-from_is_utf8, is_utf8-from_IsUtf8, cases_eq, Within, WithinAll, WithinEntries, IsRepeated, HasRepeat, HasBadChunk, FlawAt, Flaw, InvalidReason, NotUtf8, BadBignum, DuplicateKey, Value, Values, Couples, integer, bytes, text, array, dict, tagged, simple, no_values, value, no_pairs, pair, big_endian, IsNew, HasNewKeys, Width, Chunk, Tree, Uint, Nint, Bytes, Text, ByteChunks, TextChunks, Items, Pairs, Tagged, Simple, Trees, no_item, more, Entries, no_entry, entry, place, joined_chunks, IsNumber, IsByteString, ChunksAreText, Means, AllMean, EntriesMean, is_utf8, magnitude_of}
 use Rattle.cborn_judge.proofs.Meaning.Meanings.{means_once}
 
 -- ---- what means an item has no flaw
@@ -9,9 +9,7 @@ use Rattle.cborn_judge.proofs.Meaning.Meanings.{means_once}
 not_repeated : (k : Tree) (a : Value) (es : Entries) (ps : Couples) (p : ℕ) → Means k a → EntriesMean es ps → IsNew a ps → IsRepeated k es p → ⊥
 not_repeated k a no_entry ps p m e n h = h
 not_repeated k a (entry l v es) no_pairs p m e n h = e
-not_repeated k a (entry l v es) (pair b c ps) p m e n (inl h) =
-    let s = h.1 in
-    n.0 (subst (λ z. Same z b) (means_once k s.0 a s.2 m) (subst (Same s.0) (means_once l s.1 b s.3 e.0) s.4))
+not_repeated k a (entry l v es) (pair b c ps) p m e n (inl h) = grind (arith, means_once)
 not_repeated k a (entry l v es) (pair b c ps) p m e n (inr h) = not_repeated k a es ps p m e.2 n.1 h
 
 pub no_repeat : (es : Entries) (ps : Couples) (p : ℕ) → EntriesMean es ps → HasNewKeys ps → HasRepeat es p → ⊥

@@ -58,7 +58,8 @@ mutual
 abbrev IsAmid : ℕ → ℕ → ℕ → Type 0
 IsAmid a e p = (a ≤ p) × (p < e)
 
-placed_at : (t : Tree) (a : ℕ) → Placed a t → place t ≡ a
+-- a placed node is at its place
+pub placed_at : (t : Tree) (a : ℕ) → Placed a t → place t ≡ a
 placed_at (ByteChunks q cs) a h = h.0
 placed_at (TextChunks q cs) a h = h.0
 placed_at (Items q s ts) a h = h.0

@@ -1,16 +1,12 @@
 -- A device of the proofs: what an encoder is, as that which it holds of a partial sequence. No definition cites it.
 use Rattle.std.specs.Prelude.{◌≡◌, ◌<◌, ◌^◌, ◌∷◌, ◌++◌}
-use Rattle.cborn_judge.specs.Common.{ℕ, List, [], length, Bool, true, false, Option, None, Some, IsUtf8, ⊤, Ordering, Major, ByteString, TextString, Array, Map, Tag, StringKind, OfBytes, OfText, Width, AreBytes, IsShortest, big_endian, IsByteString, code, IsLeastHead, Tree, Tagged, Partial, inside, Opening, an_array, a_map, a_tag, in_chunks, Part, no_part, part, put, IsFree, Ends, built, string_tree, Proper, TakesString, bignum_tag, Container, Level, Findings, Bignum, OpenString, Encodings, Encoder}
+use Rattle.cborn_judge.specs.Common.{ℕ, List, [], length, Bool, true, false, Option, None, Some, IsUtf8, ⊤, Ordering, StringKind, OfBytes, OfText, Width, AreBytes, IsShortest, big_endian, IsByteString, code, IsLeastHead, Tree, Tagged, Partial, inside, Opening, in_chunks, Part, no_part, part, put, IsFree, Ends, built, string_tree, Proper, TakesString, bignum_tag, Container, Level, Findings, Bignum, OpenString, Encodings, Encoder}
 use Rattle.cborn_judge.specs.Flaws.{FlawAt}
 use Rattle.cborn_judge.specs.shared.Checked.{LooseAt}
 use Rattle.cborn_judge.specs.Departures.{FindsDefect, LooseBytesAt}
 use Rattle.cborn_judge.specs.shared.Judged.{FindsFlaw}
-use Rattle.cborn_judge.specs.devices.Encoding.{Mark, Coded, AreEncodedAs, IsSound, Opens, Inner, Stands, Finds, OwnFlaw, OwnDefect, IsOpening, is_chunks}
+use Rattle.cborn_judge.specs.devices.Encoding.{kind_major, Mark, Coded, AreEncodedAs, IsSound, Opens, Inner, Stands, Finds, OwnFlaw, OwnDefect, IsOpening, is_chunks}
 use Rattle.cborn_judge.specs.devices.Marks.{marks_of}
-
-abbrev pub kind_major : StringKind → Major
-kind_major OfBytes = ByteString
-kind_major OfText = TextString
 
 -- what is left of a string: all, or nothing
 abbrev pub kept : Bool → List ℕ → List ℕ
@@ -36,13 +32,6 @@ IsChunk _ t flawed x = ⊥
 abbrev pub IsStringFront : Bool → StringKind → ℕ → List ℕ → Type 0
 IsStringFront true k n h = h ≡ []
 IsStringFront false k n h = IsLeastHead (code (kind_major k)) n h
-
--- what begins with a head of this major type and argument
-abbrev pub BeginsAs : Container → ℕ → Major → Option ℕ → Opening → Type 0
-BeginsAs a q major argument (an_array p s c) = IsOpening a q (an_array p s c) × (major ≡ Array) × (argument ≡ c)
-BeginsAs a q major argument (a_map p s c) = IsOpening a q (a_map p s c) × (major ≡ Map) × (argument ≡ c)
-BeginsAs a q major argument (a_tag p w n) = IsOpening a q (a_tag p w n) × (major ≡ Tag) × (argument ≡ Some n)
-BeginsAs a q major argument (in_chunks p k) = IsOpening a q (in_chunks p k) × (argument ≡ None)
 
 -- the content of tag 2 or 3 at this place is a byte string, whose number is that of the bytes m, and this the defect of the bignum; or it is no byte string
 abbrev pub IsBignumFound : ℕ → Tree → List ℕ → Option Bignum → Type 0
@@ -107,9 +96,9 @@ module _ (order : List ℕ → List ℕ → Ordering) where
         (s : OpenString) × (y : List ℕ) × (h : List ℕ) × (e.string ≡ Some s) × (s.place ≡ p) × (s.kind ≡ k) × (s.width ≡ w) × (s.len ≡ n)
         × Written e.encodings s f y h x × Finds order f e.flaw e.defect
 
-    -- a container was opened at this place, whose encoding begins with the head of this major type and argument
-    abbrev pub OpensAs : Container → ℕ → Major → Option ℕ → Encoder O → Encoder O → Type 0
-    OpensAs a place major argument e k = (f : Partial) (o : Opening) → BeginsAs a place major argument o → IsHeld e f no_part → IsHeld k (inside f o []) no_part
+    -- a container was opened at this place
+    abbrev pub OpensAs : Container → ℕ → Encoder O → Encoder O → Type 0
+    OpensAs a place e k = (f : Partial) (o : Opening) → IsOpening a place o → IsHeld e f no_part → IsHeld k (inside f o []) no_part
 
     -- the innermost container was ended
     abbrev pub Closes : Encoder O → Encoder O → Type 0

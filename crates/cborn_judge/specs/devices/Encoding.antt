@@ -1,13 +1,13 @@
 -- A device of the proofs: what an encoder holds of a partial sequence. Each node that is whole either means something, and then its encoding stands in the buffer, or means nothing. Of public contracts that of `Encoder` alone cites it.
 use Rattle.std.specs.Prelude.{◌≡◌, ◌≢◌, ◌+◌, ◌^◌, ◌⊎◌, ◌||◌, ◌∷◌, ◌++◌, ◌%◌, ◌==◌}
-use Rattle.cborn_judge.specs.Common.{ℕ, List, [], map, length, Bool, true, false, Option, None, Some, IsPermutation, ⊤, not, AllZip, AllByRecursion, Ordering, Less, InvalidReason, DuplicateKey, DefectReason, KeyOrder, EndlessLength, IsLeastHead, Means, joined_chunks, Tree, Tagged, trees, entries, place, Partial, top, inside, Opening, an_array, a_map, a_tag, in_chunks, paired, last_of, chunks_of, ended_size, Value, IsProper, Rising, Det, DetSeq, Entry, joined, keys, Container, Level}
+use Rattle.cborn_judge.specs.Common.{ℕ, List, [], map, length, Bool, true, false, Option, None, Some, IsPermutation, ⊤, not, AllZip, AllByRecursion, Ordering, Less, InvalidReason, DuplicateKey, DefectReason, KeyOrder, EndlessLength, Major, ByteString, TextString, Array, Map, Tag, Other, StringKind, OfBytes, OfText, IsLeastHead, Means, joined_chunks, Tree, Tagged, trees, entries, place, Partial, top, inside, Opening, an_array, a_map, a_tag, in_chunks, paired, last_of, chunks_of, ended_size, Value, IsProper, Rising, Det, DetSeq, Entry, joined, keys, Container, Level}
 use Rattle.cborn_judge.specs.declared.defects.Defect as defect
 use Rattle.cborn_judge.specs.Flaws.{WithinAll, FlawAt}
 use Rattle.cborn_judge.specs.Defects.{DefectAt}
 use Rattle.cborn_judge.specs.Departures.{FindsDefect, LongAt}
 use Rattle.cborn_judge.specs.shared.Checked.{DescentAt, SizeAt, LooseAt}
 use Rattle.cborn_judge.specs.shared.Judged.{FindsFlaw, RepeatFlaw}
-use Rattle.cborn_judge.specs.declared.flaws.Flaw as flaw
+use Rattle.cborn_judge.specs.declared.faults.Flaw as flaw
 
 abbrev pub MeansNothing : Tree → Type 0
 MeansNothing t = (v : Value) → Means t v → ⊥
@@ -109,6 +109,18 @@ is_odd [] = false
 is_odd (t ∷ ts) = not (is_odd ts)
 
 -- ---- containers
+
+abbrev pub kind_major : StringKind → Major
+kind_major OfBytes = ByteString
+kind_major OfText = TextString
+
+-- the major type of a container's head, and the argument if that is known from the start; the input has none
+abbrev pub head_of : Container → Major × Option ℕ
+head_of Container.Input = (Other, None)
+head_of (Container.Array s c) = (Array, c)
+head_of (Container.Map s c) = (Map, c)
+head_of (Container.Tag w n) = (Tag, Some n)
+head_of (Container.Chunks k) = (kind_major k, None)
 
 -- the level of a container in which nothing stands yet
 abbrev pub opened : Container → ℕ → ℕ → ℕ → Level

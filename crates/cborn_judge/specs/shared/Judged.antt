@@ -3,7 +3,7 @@ use Rattle.std.specs.Prelude.{◌≡◌}
 use Rattle.cborn_judge.specs.Common.{ℕ, Option, Trees, Entries, Tree, IsEarliest, Finds, InvalidReason, DuplicateKey}
 use Rattle.cborn_judge.specs.Reasons.{flaw_rank}
 use Rattle.cborn_judge.specs.Flaws.{WithinAll, HasRepeat, FlawAt}
-use Rattle.cborn_judge.specs.declared.flaws.Flaw as flaw
+use Rattle.cborn_judge.specs.declared.faults.Flaw as flaw
 
 -- ---- what was found
 

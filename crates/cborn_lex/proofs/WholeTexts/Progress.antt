@@ -7,7 +7,7 @@ use Rattle.cborn_lex.proofs.GoodFronts.{taken as takes}
 use Rattle.cborn_lex.proofs.GoodBack.{read}
 use Rattle.cborn_lex.proofs.WholeTexts.Chains.{some_long}
 
-pub first_reads : (profile : Profile) (text tail : List ℕ) (n : ℕ) (a : Front) → 0 < length text → tail ≡ drop 1 text → n ≤ length tail → ReadsFrom (start_of (get_or text 0 0)) profile (get_or text 0 0) (take n tail) (drop n tail) a
+first_reads : (profile : Profile) (text tail : List ℕ) (n : ℕ) (a : Front) → 0 < length text → tail ≡ drop 1 text → n ≤ length tail → ReadsFrom (start_of (get_or text 0 0)) profile (get_or text 0 0) (take n tail) (drop n tail) a
     → (0 < n + 1) × (n + 1 ≤ length text) × Reads profile (take (n + 1) text) (drop (n + 1) text) a
 first_reads profile [] tail n a some e h k = absurd (omega arith)
 first_reads profile (c ∷ x) tail n a some e h k =
@@ -85,15 +85,20 @@ then_token profile text from at n class h k r =
 pub then_end : (profile : Profile) (text : List ℕ) (from at : ℕ) → from ≤ length text → TokensBetween profile text from at [] → length text ≤ at → TokensBetween profile text from (length text) []
 then_end profile text from at h1 h2 h3 = grind (arith, inside)
 
-pub then_stop : (profile : Profile) (text : List ℕ) (from at n : ℕ) (reason : LexReason) → TokensBetween profile text from at [] → Reads profile (take n (drop at text)) (drop n (drop at text)) (Bad reason) → HasNoTokenFrom profile text from (Refused at reason)
+then_stop : (profile : Profile) (text : List ℕ) (from at n : ℕ) (reason : LexReason) → TokensBetween profile text from at [] → Reads profile (take n (drop at text)) (drop n (drop at text)) (Bad reason) → HasNoTokenFrom profile text from (Refused at reason)
 then_stop profile text from at n reason h r =
     let d = drop at text in
     let m = moved profile h 0 in
     (m.0, omega (arith, m.2), (m.1, d, m.3, subst (λ y. Fails profile y reason) (take-append-drop n d) (takes profile (take n d) (drop n d) (Bad reason) r)))
 
--- what reads, by an equal slice and front
-pub reads_at : (profile : Profile) (x y : List ℕ) (n : ℕ) (a b : Front) → x ≡ y → a ≡ b → n ≤ length x → Reads profile (take n x) (drop n x) a → (n ≤ length y) × Reads profile (take n y) (drop n y) b
-reads_at profile x y n a b h1 h2 h3 h4 = grind arith
+-- what the text y begins with, whose first character is not counted
+pub reads_at : (profile : Profile) (x y : List ℕ) (n : ℕ) (a b : Front) → x ≡ y → a ≡ b → 0 < length x → n ≤ length (drop 1 x) → ReadsFrom (start_of (get_or x 0 0)) profile (get_or x 0 0) (take n (drop 1 x)) (drop n (drop 1 x)) a
+    → (n + 1 ≤ length y) × Reads profile (take (n + 1) y) (drop (n + 1) y) b
+reads_at profile x y n a b h1 h2 h3 h4 h5 = let f = first_reads profile x (drop 1 x) n a h3 refl h4 h5 in rw (← h1, ← h2) (f.1, f.2)
+
+pub bad_at : (profile : Profile) (text x : List ℕ) (from at n : ℕ) (a : Front) (reason : LexReason) → TokensBetween profile text from at [] → x ≡ drop at text → a ≡ Bad reason → 0 < length x → n ≤ length (drop 1 x) → ReadsFrom (start_of (get_or x 0 0)) profile (get_or x 0 0) (take n (drop 1 x)) (drop n (drop 1 x)) a
+    → HasNoTokenFrom profile text from (Refused at reason)
+bad_at profile text x from at n a reason h h1 h2 h3 h4 h5 = then_stop profile text from at (n + 1) reason h (reads_at profile x (drop at text) n a (Bad reason) h1 h2 h3 h4 h5).1
 
 -- Whole texts.
 

@@ -18,10 +18,6 @@ passed r e f = f.0 e
 pub failed : {P : Type 0} (r : Bool) → r ≡ false → (IsTrue r ↔ P) → P → ⊥
 failed r e f p = true_is_not_false (sym (f.1 p) ∙ e)
 
-pub either_way : {X : Type 0} {P Q : Type 0} {F G : X → Type 0} (o : Option X) → (P → Q) → ((x : X) → F x → G x) → MatchOption o P F → MatchOption o Q G
-either_way None f g h = f h
-either_way (Some x) f g h = g x h
-
 pub there : {X : Type 0} (P : Type 0) (F : X → Type 0) (o : Option X) → is_some o ≡ true → MatchOption o P F → (x : X) × F x
 there P F None e h = cc
 there P F (Some x) e h = (x, h)

@@ -1,4 +1,4 @@
--- A device of the proofs: leaves that a visitor may take several at a time, as they are spelled. Of public contracts those of `Visitor`, and of `int_len` and `integers_at` of cborn_wire, alone cite it.
+-- A device of the proofs: leaves that a visitor may take several at a time, as they are spelled. Of public contracts those of `Visitor`, and that of `integers_at` of cborn_wire, alone cite it.
 use Rattle.std.specs.Prelude.{◌≡◌, ◌+◌, ◌∷◌, ◌++◌}
 use Rattle.cborn_model.specs.Common.{ℕ, List, [], length, take, drop, None}
 use Rattle.cborn_model.specs.Heads.{least}

@@ -1,9 +1,6 @@
 -- What a reader that is fed by pieces has ready is what it has to give. The bytes that it holds follow from what it keeps, and its answers follow from them.
-use Rattle.std.proofs.lemmas.Grind.{common_steps}
-use Rattle.std.proofs.lemmas.Bool.Decides.{nat_tests}
 use Rattle.std.specs.Prelude.{◌≡◌, ◌+◌, ◌≤◌, ◌++◌}
-use Rattle.cborn_wire.proofs.Common.{refl, sym, ap, ◌∙◌, subst, ℕ, List, [], length, Option, Some, None, Err, arith, append_assoc, length-append, option_to_list, AreBytes, Tree, Trees, no_item, more, trees, depth, spelled, Fits, Wellformed, PlacedAll, WireFault, WireReason, Truncated, OpenContainer, Fault, AreComplete, Feeding, Accepts, Refuses, RunsShort, Feeds, append_trees, Unfinished, nothing, State, Live, Failed, start, ready_in, held, run, IsReached, Stops, append-nil, depth_all, spelled_all, FitsAll, all_from}
-use Rattle.cborn_model.proofs.Bytes.{bytes-append, bytes-right}
+use Rattle.cborn_wire.proofs.Common.{refl, sym, ap, ◌∙◌, subst, ℕ, List, [], length, Option, Some, None, Err, arith, append_assoc, length-append, option_to_list, AreBytes, Tree, Trees, no_item, more, trees, depth, spelled, Fits, Wellformed, PlacedAll, WireFault, WireReason, Truncated, OpenContainer, Fault, AreComplete, Feeding, Accepts, Refuses, RunsShort, Feeds, append_trees, Unfinished, nothing, State, Live, Failed, start, ready_in, held, run, IsReached, Stops, append-nil, depth_all, spelled_all, FitsAll, all_from, common_steps, nat_tests, bytes-append, bytes-right}
 use Rattle.cborn_wire.specs.declared.faults.WireFault.TheVariants as faults
 use Rattle.cborn_wire.specs.Feeding.{IsFed}
 use Rattle.cborn_wire.proofs.Machine.Running.{run-append, failed_run}
@@ -48,14 +45,7 @@ module _ (limit base : ℕ) where
 
   begins : (x : List ℕ) (s : State) → Sound limit base x s → Begins x (ready_in s)
   begins x (Live fed ready os partial) h = begins_live x fed ready os partial h
-  begins x (Failed ready p r) h =
-      let b = begins_live h.before p ready h.os nothing h.live in
-      record {
-        others = b.others ++ h.after;
-        whole = h.whole ∙ ap (λ l. l ++ h.after) b.whole ∙ append_assoc (spelled_all ready) b.others h.after;
-        read = b.read;
-        placed = b.placed;
-      }
+  begins x (Failed ready p r) h = grind (arith, common_steps, nat_tests, begins_live, append_assoc)
 
   -- What is ready are the nodes of the longest front that is well-formed.
   pub complete : (items : List Tree) (x : List ℕ) → AreBytes x → ready_in (run limit (start base) x) ≡ trees items → AreComplete limit base items x
@@ -94,14 +84,7 @@ module _ (limit base : ℕ) where
 pub taken : (limit base at : ℕ) (o : Option Tree) (items left : List Tree) (os : List OpenContainer) (partial : Unfinished) → items ≡ option_to_list o ++ left
     → IsReached limit base (Live at (trees items) os partial) → (q : ℕ) × IsReached limit q (Live at (trees left) os partial)
 taken limit base at None items left os partial e h = (base, subst (λ ts. IsReached limit base (Live at (trees ts) os partial)) e h)
-taken limit base at (Some t) items left os partial e h =
-    let s = Live at (more t (trees left)) os partial in
-    let rest = held (Live at (trees left) os partial) in
-    let cut : held s ≡ spelled t ++ rest = simp append_assoc in
-    let r = reached_held limit base at (more t (trees left)) os partial (subst (λ ts. IsReached limit base (Live at (trees ts) os partial)) e h) in
-    let all : SoundLive limit base (held s) at (more t (trees left)) os partial = subst (Sound limit base (held s)) r.0 (sound limit base (held s) r.1) in
-    let goes = sym (after_first t limit base rest all.ground.fit.0 (omega (arith, all.ground.shallow)) all.ground.placed.0) ∙ ap (run limit (start base)) (sym cut) ∙ r.0 in
-    (base + length (spelled t), (rest, bytes-right (spelled t) rest (subst AreBytes cut r.1), without limit base t (run limit (start (base + length (spelled t))) rest) goes))
+taken limit base at (Some t) items left os partial e h = grind (arith, append_assoc, reached_held, sound, after_first, bytes-right, without)
 
 -- These laws in the words of what contracts see of a feeder, for live states.
 

@@ -1,8 +1,6 @@
 -- What a reader of items takes of a piece, item by item, as steps of the machine.
-use Rattle.std.proofs.lemmas.Grind.{common_steps}
-use Rattle.std.proofs.lemmas.Bool.Decides.{nat_tests}
 use Rattle.std.specs.Prelude.{◌≡◌, ◌∷◌, ◌++◌}
-use Rattle.cborn_wire.proofs.Common.{refl, sym, ap, ◌∙◌, subst, ℕ, List, [], Option, Err, inl, inr, arith, Tree, no_item, more, trees, IsSpelled, Partial, top, inside, Part, no_part, put, whole, VisitFault, Refused, Memory, input_level, Level, PartialHead, HeadReader, Nodes, ItemReader, nothing, State, Live, Failed, ready_in, start, run, AtMostOneMore, ready, open_in, unfinished, IsFresh, IsInput, Missing, Stands, HereAt, MayEnd, IsFed, FailsAs, seen_string, seen_nodes, IsHeld, pending, seen, IsMade, take, length-append, option_to_list, length-take-le, Stops, Took, IsMoved}
+use Rattle.cborn_wire.proofs.Common.{refl, sym, ap, ◌∙◌, subst, ℕ, List, [], Option, Err, inl, inr, arith, Tree, no_item, more, trees, IsSpelled, top, Part, no_part, put, whole, VisitFault, Refused, Memory, input_level, Level, PartialHead, HeadReader, Nodes, ItemReader, nothing, State, Live, Failed, ready_in, start, run, AtMostOneMore, ready, open_in, IsFresh, IsInput, Missing, Stands, HereAt, MayEnd, IsFed, FailsAs, seen_string, seen_nodes, IsHeld, pending, seen, IsMade, take, length-append, option_to_list, length-take-le, Stops, Took, IsMoved, common_steps, nat_tests}
 use Rattle.cborn_wire.specs.declared.levels.GrownLevels.{GrownLevels}
 use Rattle.cborn_wire.specs.shared.Visiting as visiting
 use Rattle.cborn_wire.specs.shared.Visiting.{levels as levels_of}

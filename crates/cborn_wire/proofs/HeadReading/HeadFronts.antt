@@ -1,11 +1,8 @@
 -- What `read_head` answers, at each kind of initial byte.
-use Rattle.std.proofs.lemmas.Grind.{common_steps}
-use Rattle.std.proofs.lemmas.Bool.Decides.{nat_tests}
 use Rattle.std.specs.Prelude.{◌≡◌, ◌+◌, ◌-◌, ◌*◌, ◌/◌, ◌%◌, ◌<◌, ◌≤◌, ◌∷◌, ◌++◌}
-use Rattle.cborn_wire.proofs.Common.{refl, sym, ap, ◌∙◌, subst, ℕ, zero, suc, List, [], length, take, drop, get_or, true, false, None, arith, length-append, take-append-drop, length-take-le, length-replicate, AreBytes, Width, Direct, Major, Unsigned, Other, code, information, following, major_at, reason_alone, IsHeadOf, IsFrontOfHead, ReadsHead, element_or_end, Info, Now, Next, EndlessInformation, info_at, is_endless_head, is_always_bounded, is_other, head_reason, width_bytes, number}
+use Rattle.cborn_wire.proofs.Common.{refl, sym, ap, ◌∙◌, subst, ℕ, zero, suc, List, [], length, take, drop, get_or, true, false, None, arith, length-append, take-append-drop, length-take-le, length-replicate, AreBytes, Width, Direct, Major, Unsigned, Other, code, information, following, major_at, reason_alone, IsHeadOf, IsFrontOfHead, ReadsHead, element_or_end, Now, Next, EndlessInformation, info_at, is_endless_head, is_always_bounded, head_reason, width_bytes, number, common_steps, nat_tests, bytes-append, bytes-left}
 use Rattle.std.proofs.Math.ListN.{replicate}
 use Rattle.cborn_model.specs.Heads as heads
-use Rattle.cborn_model.proofs.Bytes.{bytes-append, bytes-left}
 use Rattle.cborn_wire.specs.declared.heads.Argument.TheVariants.{Given, Endless}
 use Rattle.cborn_wire.specs.declared.heads.HeadRead.{HeadRead}
 use Rattle.cborn_wire.proofs.HeadReading.InitialBytes.{same_alone}

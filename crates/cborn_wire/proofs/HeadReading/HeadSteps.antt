@@ -1,8 +1,6 @@
 -- The machine takes what `read_head` reads.
-use Rattle.std.proofs.lemmas.Grind.{common_steps}
 use Rattle.std.specs.Prelude.{◌≡◌, ◌+◌, ◌/◌, ◌%◌, ◌<◌, ◌≤◌, ◌∷◌, ◌++◌}
-use Rattle.cborn_wire.proofs.Common.{refl, sym, ap, ◌∙◌, ℕ, suc, List, [], length, take, get_or, Bool, false, cond, leb, Some, None, arith, append-nil, length-append, add-one, take_more, slice_set, Width, Major, Other, Argument, Given, head, Trees, WireReason, UnexpectedBreak, Head, major_at, seen_argument, reason_alone, IsHeadOf, Slot, element_or_end, OpenContainer, slot, open_depth, needs_item, Info, EndlessInformation, info_at, head_reason, width_bytes, number, argument_of, nothing, gathering, State, Live, Failed, ended, after_head, unless, at_slot, run}
-use Rattle.std.proofs.lemmas.Bool.Decides.{nat_tests}
+use Rattle.cborn_wire.proofs.Common.{refl, sym, ap, ◌∙◌, ℕ, suc, List, [], length, take, get_or, Bool, false, leb, Some, None, arith, append-nil, length-append, add-one, take_more, slice_set, Width, Major, Other, Argument, Given, head, Trees, WireReason, Head, major_at, seen_argument, reason_alone, IsHeadOf, Slot, element_or_end, OpenContainer, slot, open_depth, Info, EndlessInformation, info_at, head_reason, width_bytes, number, argument_of, nothing, gathering, Live, Failed, ended, after_head, at_slot, run, common_steps, nat_tests}
 use Rattle.cborn_wire.proofs.HeadReading.InitialBytes.{same_alone}
 use Rattle.cborn_wire.proofs.Machine.Pieces.{takes_whole_head, refuses_first}
 use Rattle.cborn_wire.proofs.Machine.SomeEnd.{refused_run}

@@ -1,8 +1,6 @@
 -- The table of faults says the same by numbers as by the major type and the information as data.
-use Rattle.std.proofs.lemmas.Grind.{common_steps}
-use Rattle.std.proofs.lemmas.Bool.Decides.{nat_tests}
-use Rattle.std.specs.Prelude.{◌≡◌, ◌/◌, ◌%◌, ◌<◌, ◌∷◌, ◌&&◌, ◌||◌}
-use Rattle.cborn_wire.proofs.Common.{refl, ℕ, List, Bool, false, leb, eqb, arith, code, StringKind, major_of, Slot, element_or_end, chunk, reason_of, reason_at, major_at, reason_alone, Info, info_at, is_reserved, is_endless_head, is_always_bounded, is_other, is_container, is_of_kind, is_bad_chunk, is_float, is_one, head_reason, front_reason}
+use Rattle.std.specs.Prelude.{◌≡◌, ◌/◌, ◌%◌, ◌∷◌, ◌&&◌, ◌||◌}
+use Rattle.cborn_wire.proofs.Common.{refl, ℕ, List, Bool, false, leb, eqb, arith, code, StringKind, major_of, Slot, element_or_end, chunk, reason_of, reason_at, major_at, reason_alone, Info, info_at, is_reserved, is_endless_head, is_always_bounded, is_other, is_container, is_of_kind, is_bad_chunk, is_float, is_one, head_reason, front_reason, common_steps, nat_tests}
 use Rattle.cborn_wire.specs.SlotFaults as numbers
 
 pub other_is : (m : ℕ) → leb 7 m ≡ is_other (major_at m)

@@ -1,10 +1,6 @@
 -- A container and the nodes in it: when more may come, when it is whole, and what it is then.
-use Rattle.std.proofs.lemmas.Grind.{common_steps}
-use Rattle.std.proofs.lemmas.Bool.Decides.{nat_tests}
 use Rattle.std.specs.Prelude.{◌≡◌, ◌+◌, ◌/◌, ◌%◌, ◌<◌, ◌≤◌, ◌∷◌, ◌++◌}
-use Rattle.cborn_wire.proofs.Common.{refl, sym, ap, ◌∙◌, subst, ℕ, suc, List, [], length, map, true, false, Option, Some, None, arith, append_assoc, append-nil, add-one, length_push, leb-true, leb-false, lt-leb, flat_map, Size, Endless, Array, Map, Tag, Chunk, Given, EndlessArgument, head, argument, SizeFits, Tree, Bytes, Text, ByteChunks, TextChunks, more, Entries, no_entry, entry, trees, entries, depth, depth_all, depth_entries, ending, chunk_bytes, spelled, spelled_all, spelled_entries, ChunksFit, Fits, FitsAll, FitsEntries, ChunksPlaced, Placed, PlacedAll, PlacedEntries, Opening, an_array, a_map, a_tag, in_chunks, paired, last_key, chunks_of, built, ended_size, IsAll, IsString, AreStrings, Goes, Ends, string_of, StringKind, OfBytes, OfText, major_of, opened, announced, opening, slot_in, added_depth, Announces, HeadFits, needs_item, chunks_from, placed_from, all_from, entries_from, is_full, place_of}
-use Rattle.cborn_model.proofs.Listed.Trees.{count-trees, count_entries-entries}
-use Rattle.cborn_model.proofs.HandedOver.{strings, strings_are}
+use Rattle.cborn_wire.proofs.Common.{refl, sym, ap, ◌∙◌, subst, ℕ, suc, List, [], length, map, true, false, Option, Some, None, arith, append_assoc, append-nil, add-one, length_push, leb-true, leb-false, lt-leb, flat_map, Size, Endless, Tag, Chunk, Given, EndlessArgument, head, argument, SizeFits, Tree, Bytes, Text, ByteChunks, TextChunks, more, Entries, no_entry, entry, trees, entries, depth, depth_all, depth_entries, ending, chunk_bytes, spelled, spelled_all, spelled_entries, ChunksFit, Fits, FitsAll, FitsEntries, ChunksPlaced, Placed, PlacedAll, PlacedEntries, Opening, an_array, a_map, a_tag, in_chunks, paired, last_key, chunks_of, built, ended_size, IsAll, IsString, AreStrings, Goes, Ends, string_of, StringKind, OfBytes, OfText, major_of, opened, announced, opening, slot_in, added_depth, Announces, HeadFits, needs_item, chunks_from, placed_from, all_from, entries_from, is_full, place_of, common_steps, nat_tests, count-trees, count_entries-entries, strings, strings_are}
 
 -- Keys and values in turn: how many pairs they are, and whether a value is missing.
 
@@ -133,9 +129,7 @@ sized s c n h e = grind (arith, common_steps, nat_tests)
 pub built_spelled : (o : Opening) (ts : List Tree) → HeadFits o → Ends o ts → spelled (built o ts) ≡ opening o ++ spelled_all (trees ts) ++ closing o
 built_spelled (an_array p s c) ts fits h = let z = sized s c (length ts) fits h in rw (z.size, count-trees ts, z.says, z.end) refl
 built_spelled (a_map p s c) ts fits h = let z = sized s c (length (paired ts)) fits h.0 in rw (z.size, count_entries-entries (paired ts), z.says, z.end, pairs_spelled ts h.1) refl
-built_spelled (a_tag p w n) ts fits (t, e) =
-    let start = head Tag (Given w n) in
-    subst (λ us. spelled (built (a_tag p w n) us) ≡ start ++ spelled_all (trees us) ++ []) (sym e) (ap (λ x. start ++ x) (sym (append-nil (spelled t))) ∙ sym (append-nil (start ++ (spelled t ++ []))))
+built_spelled (a_tag p w n) ts fits (t, e) = grind (arith, common_steps, nat_tests, append-nil)
 built_spelled (in_chunks p OfBytes) ts fits h = ap (λ x. head (major_of OfBytes) EndlessArgument ++ x ++ ending Endless) (chunks_spelled OfBytes ts h)
 built_spelled (in_chunks p OfText) ts fits h = ap (λ x. head (major_of OfText) EndlessArgument ++ x ++ ending Endless) (chunks_spelled OfText ts h)
 
@@ -205,14 +199,8 @@ list_chunks k ts p h =
     ap chunks_of (list_strings k ts (p + 1) h) ∙ (strings k (chunks_from (major_of k) (p + 1) (chunks_of ts))).1 ∙ ap (λ n. chunks_from (major_of k) n (chunks_of ts)) (add-one p)
 
 pub built_from : (o : Opening) (ts : List Tree) (p : ℕ) → HeadFits o → Ends o ts → built (opening_from p o) (list_from (p + length (opening o)) ts) ≡ placed_from p (built o ts)
-built_from (an_array q s c) ts p fits h =
-    let z = sized s c (length ts) fits h in
-    let r = p + length (head Array (announced s c)) in
-    rw (list_length ts r, z.size, list_trees ts r, count-trees ts, z.says) refl
-built_from (a_map q s c) ts p fits h =
-    let z = sized s c (length (paired ts)) fits h.0 in
-    let r = p + length (head Map (announced s c)) in
-    rw (list_pairs ts r, z.size, list_entries ts r, count_entries-entries (paired ts), z.says) refl
+built_from (an_array q s c) ts p fits h = grind (arith, common_steps, nat_tests, sized, list_length, list_trees, count-trees)
+built_from (a_map q s c) ts p fits h = grind (arith, common_steps, nat_tests, sized, list_pairs, list_entries, count_entries-entries)
 built_from (a_tag q w n) ts p fits (t, e) = subst (λ us. built (a_tag p w n) (list_from (p + length (head Tag (Given w n))) us) ≡ placed_from p (built (a_tag q w n) us)) (sym e) refl
 built_from (in_chunks q OfBytes) ts p fits h = ap (ByteChunks p) (list_chunks OfBytes ts p h)
 built_from (in_chunks q OfText) ts p fits h = ap (TextChunks p) (list_chunks OfText ts p h)

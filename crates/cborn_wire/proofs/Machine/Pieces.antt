@@ -1,8 +1,6 @@
 -- A piece may be taken by heads and by slices, and not byte by byte.
-use Rattle.std.proofs.lemmas.Grind.{common_steps}
-use Rattle.std.proofs.lemmas.Bool.Decides.{nat_tests}
 use Rattle.std.specs.Prelude.{◌≡◌, ◌+◌, ◌*◌, ◌/◌, ◌%◌, ◌<◌, ◌≤◌, ◌∷◌, ◌++◌}
-use Rattle.cborn_wire.proofs.Common.{refl, sym, ap, ◌∙◌, ℕ, suc, List, [], length, cond, leb, Some, None, arith, append-nil, length-append, lt-leb, le-leb, Width, Direct, One, Two, Four, Eight, Major, Argument, Given, EndlessArgument, code, following, head, string_tree, Trees, WireReason, StringKind, OpenContainer, slot, open_depth, info_at, head_reason, info_for, number, argument_of, content_of, nothing, gathering, Live, Failed, finished, after_head, gather, step, run, major_at, ArgumentFits}
+use Rattle.cborn_wire.proofs.Common.{refl, sym, ap, ◌∙◌, ℕ, List, [], length, cond, leb, Some, None, arith, append-nil, length-append, lt-leb, le-leb, Width, Direct, One, Two, Four, Eight, Major, Argument, Given, EndlessArgument, code, following, head, string_tree, Trees, WireReason, StringKind, OpenContainer, slot, open_depth, info_at, head_reason, info_for, content_of, nothing, gathering, Live, Failed, finished, after_head, gather, run, major_at, ArgumentFits, common_steps, nat_tests}
 use Rattle.cborn_wire.proofs.Machine.Running.{failed_run}
 use Rattle.cborn_wire.proofs.Machine.TakesHeads.{gathers, takes_head, quotient, major_at-code, info_at-now}
 
@@ -26,9 +24,7 @@ first_byte : (m : Major) (a : Argument) (b : ℕ) (z y : List ℕ) → b ∷ z �
 first_byte m a b z y e f = cc (e ∙ ap (λ l. l ++ y) f.bytes)
 
 pub major_of_head : (m : Major) (a : Argument) (b : ℕ) (z y : List ℕ) → ArgumentFits a → b ∷ z ≡ head m a ++ y → major_at (b / 32) ≡ m
-major_of_head m a b z y fits e =
-    let f = first_of m a fits in
-    ap (λ n. major_at (n / 32)) (first_byte m a b z y e f) ∙ ap major_at (quotient (code m) f.low f.small) ∙ major_at-code m
+major_of_head m a b z y fits e = grind (arith, first_of, first_byte, quotient, major_at-code)
 
 pub info_of_head : (m : Major) (a : Argument) (b : ℕ) (z y : List ℕ) → ArgumentFits a → b ∷ z ≡ head m a ++ y → info_at (b % 32) ≡ info_for a
 info_of_head m a b z y fits e = grind (arith, common_steps, nat_tests)

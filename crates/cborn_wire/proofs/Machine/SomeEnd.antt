@@ -1,8 +1,6 @@
 -- What is refused, and what can go on.
-use Rattle.std.proofs.lemmas.Grind.{common_steps}
 use Rattle.std.specs.Prelude.{◌≡◌, ◌+◌, ◌-◌, ◌*◌, ◌/◌, ◌%◌, ◌<◌, ◌≤◌, ◌∷◌, ◌++◌, ◌&&◌}
-use Rattle.cborn_wire.proofs.Common.{refl, sym, ap, ◌∙◌, subst, ℕ, zero, suc, List, [], length, Bool, true, false, cond, leb, Option, Some, None, arith, length-append, add-one, add-zero, lt-leb, le-leb, le-ltb, AreBytes, Width, Direct, One, Fixed, Major, Unsigned, Negative, ByteString, TextString, Array, Map, Tag, Other, Given, Opening, an_array, a_map, a_tag, in_chunks, last_key, built, string_tree, Tree, Uint, Simple, Trees, WireReason, BadSimple, StringKind, OfBytes, OfText, Slot, OpenContainer, opened, slot, slot_in, slot_in_map, open_depth, AreOpen, needs_item, begins_low, major_at, Info, Now, Next, info_at, is_other, is_one, is_bad_chunk, head_reason, front_reason, info_for, snoc, width_bytes, number, Goal, argument_of, content_of, Unfinished, nothing, gathering, State, Live, Failed, is_full, finished, holding, gather, begin_head, after_head, unless, step, run}
-use Rattle.std.proofs.lemmas.Bool.Decides.{nat_tests}
+use Rattle.cborn_wire.proofs.Common.{refl, sym, ap, ◌∙◌, subst, ℕ, zero, suc, List, [], length, Bool, true, false, cond, leb, Option, Some, None, arith, length-append, add-one, add-zero, lt-leb, le-leb, le-ltb, AreBytes, Width, Direct, One, Fixed, Major, Unsigned, Negative, ByteString, TextString, Array, Map, Tag, Other, Given, Opening, an_array, a_map, a_tag, in_chunks, last_key, built, string_tree, Tree, Uint, Simple, Trees, WireReason, BadSimple, StringKind, OfBytes, OfText, Slot, OpenContainer, opened, slot, slot_in, slot_in_map, open_depth, AreOpen, needs_item, begins_low, major_at, Info, Now, Next, info_at, is_other, is_one, is_bad_chunk, head_reason, front_reason, info_for, snoc, width_bytes, number, Goal, argument_of, content_of, Unfinished, nothing, gathering, State, Live, Failed, is_full, finished, holding, gather, begin_head, after_head, unless, step, run, common_steps, nat_tests}
 use Rattle.cborn_wire.proofs.Machine.Running.{failed_run}
 use Rattle.cborn_wire.proofs.Machine.Containers.{value_next, not_full}
 use Rattle.cborn_wire.proofs.Machine.TakesItems.{takes_break, map_plain, no_chunk}

@@ -1,8 +1,6 @@
 -- What the machine has is what was read.
-use Rattle.std.proofs.lemmas.Grind.{common_steps}
-use Rattle.std.proofs.lemmas.Bool.Decides.{nat_tests}
 use Rattle.std.specs.Prelude.{◌≡◌, ◌+◌, ◌<◌, ◌≤◌, ◌∷◌, ◌++◌}
-use Rattle.cborn_wire.proofs.Common.{sym, ap, ◌∙◌, subst, ℕ, List, [], length, true, false, leb, Some, None, arith, append_assoc, append-nil, length-append, add-zero, max, cond_both, AreBytes, Given, WidthFits, Opening, built, Goes, Ends, Tree, Trees, no_item, more, trees, depth, depth_all, spelled, spelled_all, Fits, FitsAll, Placed, PlacedAll, WireReason, major_of, OpenContainer, opened, opening, beginnings, slot, added_depth, open_depth, HeadFits, IsNoString, Next, is_bad_chunk, head_reason, front_reason, info_for, IsPlacedOpen, Ground, front, partial_bytes, snoc, width_bytes, argument_of, content_of, Unfinished, nothing, gathering, State, Live, Failed, is_full, finished, holding}
+use Rattle.cborn_wire.proofs.Common.{sym, ap, ◌∙◌, subst, ℕ, List, [], length, true, false, leb, Some, None, arith, append_assoc, append-nil, length-append, add-zero, max, cond_both, AreBytes, Given, WidthFits, Opening, built, Goes, Ends, Tree, Trees, no_item, more, trees, depth, depth_all, spelled, spelled_all, Fits, FitsAll, Placed, PlacedAll, WireReason, major_of, OpenContainer, opened, opening, beginnings, slot, added_depth, open_depth, HeadFits, IsNoString, Next, is_bad_chunk, head_reason, front_reason, info_for, IsPlacedOpen, Ground, front, partial_bytes, snoc, width_bytes, argument_of, content_of, Unfinished, nothing, gathering, State, Live, Failed, is_full, finished, holding, common_steps, nat_tests}
 use Rattle.cborn_wire.proofs.Spelled.TreeLists.{trees-push}
 use Rattle.cborn_wire.proofs.Machine.Containers.{Belongs, closing, full_closing, goes_on, goes_whole, built_spelled, built_fits, built_deep, built_placed}
 
@@ -86,15 +84,7 @@ module _ (limit base : ℕ) where
   module _ (ready : Trees) (os : List OpenContainer) (o : Opening) (ts : List Tree) (g : Ground limit base ready os) (free : IsNoString os) (fits : HeadFits o) (all : FitsAll (trees ts))
       (deep : added_depth o + open_depth os + depth_all (trees ts) ≤ limit) (placed : IsPlacedOpen (base + length (front ready os)) (opened o ts)) (fed : ℕ) (x : List ℕ) (at : fed ≡ base + length x) where
     pub ends : Ends o ts → x ≡ front ready os ++ (opening o ++ spelled_all (trees ts) ++ closing o) → Whole x fed ready os (built o ts)
-    ends h bytes = record {
-      ground = g;
-      accepts = accepted os (built o ts) free;
-      fits = built_fits o ts fits h all;
-      shallow = omega (arith, built_deep o ts h, deep);
-      placed = built_placed o ts _ fits h placed.0 placed.1;
-      bytes = bytes ∙ ap (λ l. front ready os ++ l) (sym (built_spelled o ts fits h));
-      fed_is = at;
-    }
+    ends h bytes = grind (arith, accepted, built_fits, built_deep, built_placed, built_spelled)
 
     pub sound_holding : ((t : Tree) → Whole x fed ready os t → Sound x (finished fed ready os t)) → (is_full o (length ts) ≡ false → Goes o ts) → (is_full o (length ts) ≡ true → Ends o ts)
         → x ≡ front ready os ++ (opening o ++ spelled_all (trees ts)) → Sound x (holding fed ready os o ts)
@@ -110,18 +100,7 @@ module _ (limit base : ℕ) where
         })
 
   pub sound_finished : (os : List OpenContainer) (ready : Trees) (t : Tree) (fed : ℕ) (x : List ℕ) → Whole x fed ready os t → Sound x (finished fed ready os t)
-  sound_finished [] ready t fed x h = record {
-    ground = record {
-      fit = fits-snoc ready t h.ground.fit h.fits;
-      shallow = omega (arith, depth-snoc ready t, h.ground.shallow, h.shallow);
-      placed = placed-snoc ready t base h.ground.placed (subst (λ l. Placed (base + length l) t) (append-nil (spelled_all ready)) h.placed);
-      are_open = tt;
-      open_placed = tt;
-    };
-    bytes = nothing_more _ _ (nothing_more _ _ (h.bytes ∙ ap (λ l. l ++ spelled t) (append-nil (spelled_all ready)) ∙ sym (spelled_all-snoc ready t)));
-    fed_is = h.fed_is;
-    partial_fits = tt;
-  }
+  sound_finished [] ready t fed x h = grind (arith, common_steps, nat_tests, fits-snoc, depth-snoc, placed-snoc, append-nil, nothing_more, spelled_all-snoc)
   sound_finished (opened o ts ∷ os) ready t fed x h =
       let top = top_placed ready os (opened o ts) h.ground in
       let may = h.ground.are_open.0 in

@@ -1,9 +1,6 @@
 -- A whole run keeps what the machine has to what was read: so this is known of each state that some bytes make.
-use Rattle.std.proofs.lemmas.Grind.{common_steps}
 use Rattle.std.specs.Prelude.{◌≡◌, ◌+◌, ◌*◌, ◌/◌, ◌%◌, ◌<◌, ◌≤◌, ◌∷◌, ◌++◌, ◌&&◌}
-use Rattle.cborn_wire.proofs.Common.{refl, sym, ap, ◌∙◌, subst, ℕ, suc, List, [], length, get_or, Bool, true, false, leb, Option, Some, None, arith, append_assoc, append-nil, length_push, cond_both, leb-true, leb-false, be_bytes_2, be_bytes_4, be_bytes_8, AreBytes, Width, Direct, Major, Given, EndlessArgument, code, information, following, head, WidthFits, Trees, WireReason, major_of, Slot, OpenContainer, slot, open_depth, Info, Now, Next, Reserved, EndlessInformation, info_at, head_reason, front_reason, is_other, is_container, info_for, major_at, start, width_bytes, number, argument_of, content_of, nothing, gathering, State, Live, Failed, gather, begin_head, at_slot, unless, step, run, front, Ground, in_chunks, Tree, no_item, more, depth, depth_all, Fits, FitsAll, opened, IsNoString, AreOpen, snoc, Unfinished, held, IsReached}
-use Rattle.std.proofs.lemmas.Bool.Decides.{nat_tests}
-use Rattle.cborn_model.proofs.Bytes.{bytes-append}
+use Rattle.cborn_wire.proofs.Common.{refl, sym, ap, ◌∙◌, subst, ℕ, suc, List, [], length, get_or, Bool, true, false, leb, Option, Some, None, arith, append_assoc, append-nil, length_push, cond_both, leb-true, leb-false, be_bytes_2, be_bytes_4, be_bytes_8, AreBytes, Width, Direct, Major, Given, EndlessArgument, code, information, following, head, WidthFits, Trees, WireReason, major_of, Slot, OpenContainer, slot, open_depth, Info, Now, Next, Reserved, EndlessInformation, info_at, head_reason, front_reason, is_other, is_container, info_for, major_at, start, width_bytes, number, argument_of, content_of, nothing, gathering, State, Live, Failed, gather, begin_head, at_slot, unless, step, run, front, Ground, in_chunks, Tree, no_item, more, depth, depth_all, Fits, FitsAll, opened, IsNoString, AreOpen, snoc, Unfinished, held, IsReached, common_steps, nat_tests, bytes-append}
 pub use Rattle.cborn_model.proofs.Numbers.Majors.{code_at}
 use Rattle.cborn_wire.proofs.Machine.SoundItems.{SoundLive, Sound}
 use Rattle.cborn_wire.proofs.Machine.SoundSteps.{Clear, is_clear, sound_head, sound_content}

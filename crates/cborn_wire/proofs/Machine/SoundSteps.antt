@@ -1,9 +1,6 @@
 -- Each step keeps what the machine has to what was read.
-use Rattle.std.proofs.lemmas.Grind.{common_steps}
-use Rattle.std.proofs.lemmas.Bool.Decides.{nat_tests}
 use Rattle.std.specs.Prelude.{◌≡◌, ◌+◌, ◌≤◌, ◌∷◌, ◌++◌, ◌&&◌}
-use Rattle.cborn_wire.proofs.Common.{refl, sym, ap, ◌∙◌, subst, ℕ, List, [], length, Bool, true, false, cond, ltb, leb, Option, Some, None, inl, inr, arith, append_assoc, append-nil, cond_both, leb-true, leb-false, ltb-false, AreBytes, Width, Direct, One, Fixed, Endless, Major, Unsigned, Negative, ByteString, TextString, Array, Map, Tag, Other, Argument, Given, EndlessArgument, head, WidthFits, Opening, an_array, a_map, a_tag, in_chunks, built, string_tree, Tree, Uint, Nint, Simple, Trees, trees, depth, ending, string, spelled, spelled_all, Fits, Placed, WireReason, BadSimple, UnexpectedBreak, StringKind, OfBytes, OfText, major_of, Slot, OpenContainer, opened, opening, slot, added_depth, open_depth, HeadFits, IsNoString, AreOpen, needs_item, ArgumentFits, Info, Next, is_reserved, is_endless_head, is_always_bounded, is_other, is_container, is_break, is_bad_chunk, is_float, head_reason, info_for, place_of, Ground, content_of, Failed, finished, holding, ended, gather, after_head, front, chunk}
-use Rattle.cborn_model.proofs.Numbers.Simples.{simple_value, least_direct, least_one}
+use Rattle.cborn_wire.proofs.Common.{refl, sym, ap, ◌∙◌, subst, ℕ, List, [], length, Bool, true, false, cond, ltb, leb, Some, None, inr, arith, append_assoc, append-nil, cond_both, leb-true, leb-false, ltb-false, AreBytes, Width, Direct, One, Fixed, Endless, Major, Unsigned, Negative, ByteString, TextString, Array, Map, Tag, Other, Argument, Given, EndlessArgument, head, WidthFits, Opening, an_array, a_map, a_tag, in_chunks, built, string_tree, Tree, Uint, Nint, Simple, Trees, trees, depth, ending, string, spelled, spelled_all, Fits, Placed, BadSimple, UnexpectedBreak, StringKind, OfBytes, OfText, major_of, Slot, OpenContainer, opened, opening, slot, added_depth, open_depth, HeadFits, IsNoString, AreOpen, needs_item, ArgumentFits, Info, Next, is_reserved, is_endless_head, is_always_bounded, is_other, is_container, is_break, is_bad_chunk, is_float, head_reason, info_for, place_of, Ground, content_of, Failed, finished, holding, ended, gather, after_head, front, chunk, common_steps, nat_tests, simple_value, least_direct, least_one}
 use Rattle.cborn_wire.proofs.Machine.Containers.{empty_goes, empty_whole, break_ends}
 use Rattle.cborn_wire.proofs.Machine.SoundItems.{Sound, Accepts, accepted, ground_less, top_placed, nothing_more, ends, sound_holding, sound_finished}
 
@@ -85,8 +82,7 @@ module _ (limit base : ℕ) (ready : Trees) (os : List OpenContainer) (fed p : �
   sound_head Map (Given w n) c fits is = sound_opening (a_map p (Fixed w) (Some n)) refl fits (free_of os Map _ c.chunked refl refl) (omega (arith, leb-false limit (open_depth os) c.room)) is
   sound_head Map EndlessArgument c fits is = sound_opening (a_map p Endless None) refl tt (free_of os Map _ c.chunked refl refl) (omega (arith, leb-false limit (open_depth os) c.room)) is
   sound_head Tag (Given w n) c fits is = sound_opening (a_tag p w n) refl fits (free_of os Tag _ c.chunked refl refl) (omega (arith, leb-false limit (open_depth os) c.room)) is
-  sound_head Other (Given Direct n) c fits is =
-      sound_leaf (Simple p n) (accepted os _ (free_of os Other _ c.chunked refl refl)) (simple_value n (inl fits)) refl placed (is ∙ ap (λ w. front ready os ++ head Other (Given w n)) (sym (least_direct n fits)))
+  sound_head Other (Given Direct n) c fits is = grind (arith, common_steps, nat_tests, sound_leaf, accepted, free_of, simple_value, least_direct)
   sound_head Other (Given One n) c fits is =
       cond_both (ltb n 32) _ _ (Sound limit base x)
       (λ e. record {

@@ -1,11 +1,6 @@
 -- The machine takes what an item spells, and has that item.
-use Rattle.std.proofs.lemmas.Grind.{common_steps}
-use Rattle.std.proofs.lemmas.Bool.Decides.{nat_tests}
-use Rattle.cborn_wire.proofs.Common.{refl, sym, ap, ◌∙◌, subst, ℕ, List, [], length, map, Bool, false, cond, leb, Some, None, arith, append_assoc, append-nil, length-append, add-zero, lt-leb, le-leb, IsTrue, Width, Size, Fixed, Endless, Chunk, Major, Unsigned, Negative, ByteString, TextString, Array, Map, Tag, Other, Given, EndlessArgument, head, WidthFits, least, is_simple_value, argument, SizeFits, Opening, an_array, a_map, a_tag, in_chunks, built, string_tree, paired, chunks_of, Goes, Ends, Tree, Uint, Nint, Bytes, Text, ByteChunks, TextChunks, Items, Pairs, Tagged, Simple, Trees, no_item, more, Entries, no_entry, entry, trees, count, count_entries, depth, depth_all, ending, string, spelled, spelled_all, Fits, FitsAll, string_of, placed_from, StringKind, OfBytes, OfText, major_of, Slot, chunk, OpenContainer, opened, opening, slot, slot_in, slot_in_map, added_depth, open_depth, HeadFits, IsNoString, needs_item, ArgumentFits, Info, EndlessInformation, is_reserved, is_endless_head, is_always_bounded, is_other, is_container, is_bad_chunk, head_reason, info_for, append_trees, snoc, content_of, nothing, gathering, Live, is_full, finished, holding, gather, after_head, run, IsNoChunkSlot}
+use Rattle.cborn_wire.proofs.Common.{refl, sym, ap, ◌∙◌, subst, ℕ, List, [], length, map, Bool, false, cond, leb, Some, None, arith, append_assoc, append-nil, length-append, add-zero, lt-leb, le-leb, IsTrue, Width, Size, Fixed, Endless, Chunk, Major, Unsigned, Negative, ByteString, TextString, Array, Map, Tag, Other, Given, EndlessArgument, head, WidthFits, least, is_simple_value, argument, SizeFits, Opening, an_array, a_map, a_tag, in_chunks, built, string_tree, paired, chunks_of, Goes, Ends, Tree, Uint, Nint, Bytes, Text, ByteChunks, TextChunks, Items, Pairs, Tagged, Simple, Trees, no_item, more, Entries, no_entry, entry, trees, count, count_entries, depth, depth_all, ending, string, spelled, spelled_all, Fits, FitsAll, string_of, placed_from, StringKind, OfBytes, OfText, major_of, Slot, chunk, OpenContainer, opened, opening, slot, slot_in, slot_in_map, added_depth, open_depth, HeadFits, IsNoString, needs_item, ArgumentFits, Info, EndlessInformation, is_reserved, is_endless_head, is_always_bounded, is_other, is_container, is_bad_chunk, head_reason, info_for, append_trees, snoc, content_of, nothing, gathering, Live, is_full, finished, holding, gather, after_head, run, IsNoChunkSlot, common_steps, nat_tests, strings, strings_are, count_entries-entries, simple_fits}
 use Rattle.std.specs.Prelude.{Option, ◌≡◌, ◌+◌, ◌<◌, ◌≤◌, ◌∷◌, ◌++◌, ◌&&◌}
-use Rattle.cborn_model.proofs.HandedOver.{strings, strings_are}
-use Rattle.cborn_model.proofs.Listed.Trees.{count_entries-entries}
-use Rattle.cborn_model.proofs.Numbers.Simples.{simple_fits}
 use Rattle.cborn_wire.proofs.Machine.Containers.{nodes_of, nodes_entries, nodes_end, nodes_fit, nodes_deep, strings_fitting, strings_flat, not_yet, closing, endless_closing, full_closing, built_spelled, list_from, opening_from, ends_from, built_from}
 use Rattle.cborn_wire.proofs.Machine.TakesHeads.{gathers, takes_head}
 use Rattle.cborn_wire.proofs.Spelled.TreeLists.{tree_list, trees-tree_list, tree_count}

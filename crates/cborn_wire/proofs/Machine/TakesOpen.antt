@@ -1,8 +1,6 @@
 -- The machine takes what is open, too.
-use Rattle.std.proofs.lemmas.Grind.{common_steps}
-use Rattle.std.proofs.lemmas.Bool.Decides.{nat_tests}
 use Rattle.std.specs.Prelude.{◌≡◌, ◌+◌, ◌≤◌, ◌∷◌, ◌++◌}
-use Rattle.cborn_wire.proofs.Common.{refl, ap, ◌∙◌, ℕ, List, [], length, Option, None, cond, arith, append_assoc, length-append, add-zero, Opening, an_array, a_map, last_key, built, Tree, Trees, trees, depth_all, spelled_all, OpenContainer, opened, opening, beginnings, slot, slot_in_map, added_depth, open_depth, IsNoString, AreOpen, nothing, Live, is_full, finished, run}
+use Rattle.cborn_wire.proofs.Common.{refl, ap, ◌∙◌, ℕ, List, [], length, Option, None, cond, arith, append_assoc, length-append, add-zero, Opening, an_array, a_map, last_key, built, Tree, Trees, trees, depth_all, spelled_all, OpenContainer, opened, opening, beginnings, slot, slot_in_map, added_depth, open_depth, IsNoString, AreOpen, nothing, Live, is_full, finished, run, common_steps, nat_tests}
 use Rattle.cborn_wire.proofs.Machine.Containers.{not_full, list_from, list_length, opening_from}
 use Rattle.cborn_wire.proofs.Machine.TakesItems.{takes_opening, takes_nodes, opened_taken}
 

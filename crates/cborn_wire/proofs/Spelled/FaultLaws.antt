@@ -1,9 +1,6 @@
 -- The laws of faults.
-use Rattle.std.proofs.lemmas.Grind.{common_steps}
-use Rattle.std.proofs.lemmas.Bool.Decides.{nat_tests}
 use Rattle.std.specs.Prelude.{◌≡◌, ◌+◌, ◌<◌, ◌≤◌, ◌∷◌, ◌++◌, ◌⊎◌}
-use Rattle.cborn_wire.proofs.Common.{refl, sym, ap, ◌∙◌, subst, ℕ, List, [], length, take, Bool, true, false, cond, eqb, inl, inr, arith, append_assoc, append-nil, cases_order, AreBytes, Trees, Wellformed, WireReason, Truncated, IsWellformed, GoesOn, IsReason, Fault, SlotRefused, nothing, gathering, State, Live, Failed, run, start}
-use Rattle.cborn_model.proofs.Bytes.{bytes-left}
+use Rattle.cborn_wire.proofs.Common.{refl, sym, ap, ◌∙◌, subst, ℕ, List, [], length, take, Bool, true, false, cond, eqb, inl, inr, arith, append_assoc, append-nil, cases_order, AreBytes, Trees, Wellformed, WireReason, Truncated, IsWellformed, GoesOn, IsReason, Fault, SlotRefused, nothing, gathering, State, Live, Failed, run, start, common_steps, nat_tests, bytes-left}
 use Rattle.cborn_wire.specs.Faults.{Refused}
 use Rattle.cborn_wire.proofs.Spelled.AllBytes.{well_bytes}
 use Rattle.cborn_wire.proofs.Spelled.GoingOn.{same_place, goes_front, refused_ends, none_later, refused_said}

@@ -1,9 +1,7 @@
 -- Which bytes go on: the state of the machine where a head begins, and which heads are allowed there.
 use Rattle.std.specs.Prelude.{◌≡◌, ◌+◌, ◌<◌, ◌∷◌, ◌++◌}
-use Rattle.cborn_wire.proofs.Common.{refl, sym, ap, ◌∙◌, subst, ℕ, suc, List, [], length, take, drop, Bool, true, false, cond, leb, eqb, Option, Some, None, inl, inr, arith, append_assoc, eqb-true, take-append-drop, AreBytes, Trees, One, Unsigned, Other, WireReason, StringKind, OfBytes, OfText, Slot, chunk, OpenContainer, slot, open_depth, Open, IsWellformed, GoesOn, BeginsHead, judged, IsReason, reason_at, SlotRefused, Now, Next, is_bad_chunk, head_reason, argument_of, nothing, gathering, State, Live, Failed, step, start, run, unless, length-append, append_cancel_left}
-use Rattle.cborn_model.proofs.Numbers.OneHead.{append_same}
+use Rattle.cborn_wire.proofs.Common.{refl, sym, ap, ◌∙◌, subst, ℕ, List, [], length, take, drop, Bool, true, false, cond, eqb, Some, inl, inr, arith, append_assoc, eqb-true, take-append-drop, AreBytes, Trees, Unsigned, WireReason, StringKind, OfBytes, OfText, Slot, chunk, OpenContainer, Open, IsWellformed, GoesOn, BeginsHead, judged, IsReason, reason_at, SlotRefused, Now, is_bad_chunk, nothing, gathering, State, Live, Failed, step, start, run, length-append, append_cancel_left, append_same, bytes-append, bytes-left, bytes-right, common_steps, nat_tests}
 use Rattle.cborn_wire.proofs.Spelled.OneReading.{split}
-use Rattle.cborn_model.proofs.Bytes.{bytes-append, bytes-left, bytes-right}
 use Rattle.cborn_wire.specs.Faults.{Refused}
 use Rattle.cborn_wire.proofs.Machine.Running.{run-append}
 use Rattle.cborn_wire.proofs.Machine.SomeEnd.{Closable, takes_part, takes_integer}
@@ -58,13 +56,7 @@ module _ (limit : ℕ) where
 
   -- after the first byte of a simple value of two bytes it isn't
   amid_simple : (f : List ℕ) → Between f → Between (f ++ 0xf8 ∷ []) → ⊥
-  amid_simple f a b =
-      go (head_reason (slot a.os) (leb limit (open_depth a.os)) Other (Next One) [])
-      (sym (run-append limit (start 0) f (0xf8 ∷ []) ∙ ap (λ s. run limit s (0xf8 ∷ [])) a.is) ∙ b.is)
-    where
-      go : (o : Option WireReason) → unless o a.ready a.fed (Live (suc a.fed) a.ready a.os (gathering a.fed (argument_of Other One) 1 [])) ≡ Live b.fed b.ready b.os nothing → ⊥
-      go None e = cc
-      go (Some r) e = cc
+  amid_simple f a b = grind (arith, common_steps, nat_tests, run-append)
 
   judged_front : (b : ℕ) (y : List ℕ) → (z : List ℕ) × (b ∷ y ≡ judged b y ++ z)
   judged_front b y = go (eqb b 0xf8)

@@ -1,9 +1,6 @@
 -- A list of bytes has one reading at most, and no item begins another. Nodes that are at their offsets stay as they are.
-use Rattle.std.proofs.lemmas.Grind.{common_steps}
-use Rattle.std.proofs.lemmas.Bool.Decides.{nat_tests}
 use Rattle.std.specs.Prelude.{◌≡◌, ◌+◌, ◌≤◌, ◌++◌, ◌∷◌}
-use Rattle.cborn_wire.proofs.Common.{refl, sym, ap, ◌∙◌, subst, ℕ, List, [], length, max, arith, append_assoc, append-nil, length-append, add-zero, append_cancel_left, AreBytes, Tree, Trees, trees, no_item, more, depth, depth_all, spelled, spelled_all, Fits, FitsAll, Wellformed, Placed, PlacedAll, placed_from, all_from, append_trees, snoc, nothing, State, Live, Failed, start, ready_in, front, run, suc, Chunk, Major, ByteString, TextString, Array, Map, Tag, Given, head, argument, Uint, Nint, Bytes, Text, ByteChunks, TextChunks, Items, Pairs, Tagged, Simple, Entries, no_entry, entry, count, count_entries, chunk_bytes, ChunksPlaced, PlacedEntries, chunks_from, entries_from, cases_lt}
-use Rattle.cborn_model.proofs.Numbers.OneHead.{append_same}
+use Rattle.cborn_wire.proofs.Common.{refl, sym, ap, ◌∙◌, subst, ℕ, List, [], length, max, arith, append_assoc, append-nil, length-append, add-zero, append_cancel_left, AreBytes, Tree, Trees, trees, no_item, more, depth, depth_all, spelled, spelled_all, Fits, FitsAll, Wellformed, Placed, PlacedAll, placed_from, all_from, append_trees, snoc, nothing, State, Live, Failed, start, ready_in, front, run, suc, Chunk, Major, ByteString, TextString, Array, Map, Tag, Given, head, argument, Uint, Nint, Bytes, Text, ByteChunks, TextChunks, Items, Pairs, Tagged, Simple, Entries, no_entry, entry, count, count_entries, chunk_bytes, ChunksPlaced, PlacedEntries, chunks_from, entries_from, cases_lt, common_steps, nat_tests, append_same}
 use Rattle.cborn_wire.proofs.Machine.Running.{run-append}
 use Rattle.cborn_wire.proofs.Machine.TakesItems.{takes, append_trees-nil, append_trees-snoc}
 use Rattle.cborn_wire.proofs.Machine.SoundRuns.{sound}

@@ -1,8 +1,6 @@
 -- The table of faults by slots gives the reason of `Faults`.
-use Rattle.std.proofs.lemmas.Grind.{common_steps}
 use Rattle.std.specs.Prelude.{◌≡◌, ◌/◌, ◌%◌, ◌<◌, ◌∷◌}
-use Rattle.cborn_wire.proofs.Common.{ℕ, List, Bool, true, false, leb, Some, arith, agree_below_at, WireReason, Truncated, OfBytes, OfText, Slot, item, chunk, judged, reason_at, value, element_or_end}
-use Rattle.std.proofs.lemmas.Bool.Decides.{nat_tests}
+use Rattle.cborn_wire.proofs.Common.{ℕ, List, Bool, true, false, leb, Some, arith, agree_below_at, WireReason, OfBytes, OfText, Slot, item, chunk, judged, reason_at, value, element_or_end, common_steps, nat_tests}
 use Rattle.cborn_wire.specs.Faults.{reason_of}
 use Rattle.cborn_wire.specs.SlotFaults as table
 

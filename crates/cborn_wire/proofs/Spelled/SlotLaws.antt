@@ -1,7 +1,6 @@
 -- The state of the machine at a slot, and what it fails for there.
 use Rattle.std.specs.Prelude.{◌≡◌, ◌+◌, ◌++◌}
-use Rattle.cborn_wire.proofs.Common.{refl, sym, ap, ◌∙◌, subst, ℕ, List, [], length, Some, inr, arith, append-nil, length-append, AreBytes, Trees, no_item, spelled_all, WireReason, Slot, OpenContainer, beginnings, slot, open_depth, Open, IsWellformed, GoesOn, Fault, Truncated, SlotRefused, front_reason, all_from, Unfinished, nothing, Live, Failed, run, start, front}
-use Rattle.cborn_model.proofs.Bytes.{bytes-append}
+use Rattle.cborn_wire.proofs.Common.{refl, sym, ap, ◌∙◌, subst, ℕ, List, [], length, Some, inr, arith, append-nil, length-append, AreBytes, Trees, no_item, spelled_all, WireReason, Slot, OpenContainer, beginnings, slot, open_depth, Open, IsWellformed, GoesOn, Fault, Truncated, SlotRefused, front_reason, all_from, Unfinished, nothing, Live, Failed, run, start, front, bytes-append}
 use Rattle.cborn_wire.proofs.HeadReading.InitialBytes.{same_reason}
 use Rattle.cborn_wire.proofs.Machine.Running.{run-append, failed_run}
 use Rattle.cborn_wire.proofs.Spelled.OneReading.{reads, takes_sequence, ends_read}

@@ -1,7 +1,6 @@
 -- Nodes one after another, as lists of std and as the trees' own.
 use Rattle.std.specs.Prelude.{◌≡◌, ◌∷◌, ◌++◌}
-use Rattle.cborn_wire.proofs.Common.{refl, sym, ap, ◌∙◌, suc, List, [], length, append_assoc, Tree, Trees, no_item, more, trees, count, spelled, spelled_all, append_trees, snoc}
-use Rattle.cborn_model.proofs.Listed.Trees.{trees-injective}
+use Rattle.cborn_wire.proofs.Common.{refl, sym, ap, ◌∙◌, suc, List, [], length, append_assoc, Tree, Trees, no_item, more, trees, count, spelled, spelled_all, append_trees, snoc, trees-injective, arith, common_steps, nat_tests}
 
 pub trees-append : (ts us : List Tree) → trees (ts ++ us) ≡ append_trees (trees ts) (trees us)
 trees-append [] us = refl
@@ -25,8 +24,7 @@ tree_count (more t ts) = ap suc (tree_count ts)
 
 -- a list that begins with another, seen from its trees
 pub begins_list : (ts us : List Tree) (vs : Trees) → trees us ≡ append_trees (trees ts) vs → us ≡ ts ++ tree_list vs
-begins_list ts us vs e =
-    trees-injective us (ts ++ tree_list vs) (e ∙ ap (append_trees (trees ts)) (sym (trees-tree_list vs)) ∙ sym (trees-append ts (tree_list vs)))
+begins_list ts us vs e = grind (arith, common_steps, nat_tests, trees-injective, trees-tree_list, trees-append)
 
 pub spelled_all-append : (ts us : Trees) → spelled_all (append_trees ts us) ≡ spelled_all ts ++ spelled_all us
 spelled_all-append no_item us = refl

@@ -1,9 +1,6 @@
 -- What one more node or a break makes of a partial sequence: the levels that are kept, and the state.
-use Rattle.std.proofs.lemmas.Grind.{common_steps}
 use Rattle.std.specs.Prelude.{◌≡◌, ◌+◌, ◌%◌, ◌^◌, ◌<◌, ◌∷◌, ◌++◌}
-use Rattle.cborn_wire.proofs.Common.{refl, sym, ap, ◌∙◌, ℕ, List, [], length, Bool, true, false, not, cond, ltb, eqb, Option, Some, None, arith, length-append, length_push, Width, Fixed, WidthFits, Tree, Opening, an_array, a_map, a_tag, Partial, top, inside, no_part, put, last_key, built, string_tree, Goes, Ends, TakesItem, TakesString, Proper, IsFree, UnexpectedBreak, StringKind, opened, slot, slot_in, slot_in_map, HeadFits, needs_item, Slot, item, element_or_end, plain, nothing, is_full, Live, Failed, finished, ended, Level, ready, open_in, state, AreFromBytes, levels, Keeps, with_part, may_end, lessened, is_even, is_chunks, slot_of, kind_in, level_in, level_with, input_level, announced_nodes, kind_at_none, IsNoString}
-use Rattle.std.proofs.lemmas.Bool.Decides.{nat_tests}
-use Rattle.cborn_wire.specs.declared.levels.LevelKind.TheVariants.{Map, GreatMap}
+use Rattle.cborn_wire.proofs.Common.{refl, sym, ap, ◌∙◌, ℕ, List, [], length, Bool, true, false, not, cond, eqb, Option, Some, None, arith, length-append, length_push, Width, Fixed, Tree, Opening, an_array, a_map, a_tag, Partial, top, inside, no_part, put, last_key, built, string_tree, Goes, Ends, TakesItem, TakesString, Proper, IsFree, UnexpectedBreak, StringKind, opened, slot, slot_in, slot_in_map, HeadFits, needs_item, Slot, item, element_or_end, plain, is_full, Failed, finished, holding, ended, Level, ready, open_in, state, AreFromBytes, levels, Keeps, with_part, may_end, lessened, is_even, is_chunks, slot_of, kind_in, level_in, level_with, input_level, announced_nodes, kind_at_none, IsNoString, Argument, ArgumentFits, Announces, size_in, count_in, common_steps, nat_tests}
 use Rattle.cborn_wire.proofs.Machine.Containers.{pair_count, even, goes_on, goes_whole, break_ends}
 use Rattle.cborn_wire.proofs.Machine.SoundItems.{Accepts, accepted}
 use Rattle.cborn_wire.proofs.Spelled.TreeLists.{trees-push}
@@ -93,12 +90,7 @@ level_slot (a_map p s None) ts = go (last_key ts) refl
     go : (x : Option Tree) → last_key ts ≡ x → cond (is_even (lessened 0 (length ts))) element_or_end item ≡ plain (slot_in_map None x)
     go None e = ap (λ b. cond b element_or_end item) (key_parity 0 ts e)
     go (Some k) e = ap (λ b. cond b element_or_end item) (value_parity 0 ts k e)
-level_slot (a_map p s (Some n)) ts = go (ltb (length ts + 2 ^ 64) (n + n)) (last_key ts)
-  where
-    go : (b : Bool) (x : Option Tree) → slot_of (cond b GreatMap Map) (lessened (n + n) (length ts)) ≡ plain (slot_in_map (Some n) x)
-    go true None = refl
-    go false None = refl
-    go b x = refl
+level_slot (a_map p s (Some n)) ts = grind (arith, common_steps, nat_tests)
 level_slot c ts = refl
 
 pub top_slot : (f : Partial) (ls : List Level) (l : Level) → levels f ≡ ls ++ l ∷ [] → slot_of l.kind l.missing ≡ plain (slot (open_in f))
@@ -117,12 +109,7 @@ not_is b c h = grind (arith, common_steps, nat_tests)
 module _ (end : ℕ) where
   pub stays : (h : Partial) (u : Tree) (ls : List Level) (l r : Level) → levels h ≡ ls ++ l ∷ [] → Proper h → Accepts (open_in h) u → AreFromBytes h → with_part l ≡ Some r
       → Keeps (put h u) ls r × (finished end (ready h) (open_in h) u ≡ state end (put h u) no_part)
-  stays (top ts) u ls l r e proper accepts say w =
-      let h = last_same [] ls e in
-      let is : input_level (length (ts ++ u ∷ [])) ≡ r =
-      ap input_level (length_push ts u) ∙ ap (λ m. record (input_level 0) { missing = m }) (sym (again 0 (length ts))) ∙ cc (sym (endless_on (input_level (length ts)) refl) ∙ ap with_part h.1 ∙ w)
-      in
-      ((ap (λ m. m ++ input_level (length (ts ++ u ∷ [])) ∷ []) h.0 ∙ ap (λ k. ls ++ k ∷ []) is, tt, tt), ap (λ us. Live end us [] nothing) (sym (trees-push ts u)))
+  stays (top ts) u ls l r e proper accepts say w = grind (arith, common_steps, nat_tests, last_same, length_push, again, endless_on, trees-push)
   stays (inside f o ts) u ls l r e proper accepts say w =
       let h = last_same (levels f) ls e in
       let (more, is) = some_of (is_full o (length (ts ++ u ∷ []))) (level_in o (ts ++ u ∷ [])) r (sym (after_next o ts u say.1 proper.2) ∙ ap with_part h.1 ∙ w) in (
@@ -157,6 +144,18 @@ module _ (end : ℕ) where
   pub breaks_not : (p : ℕ) (h : Partial) (ls : List Level) (l : Level) → levels h ≡ ls ++ l ∷ [] → may_end l.kind l.missing ≡ false → ended end p (ready h) (open_in h) ≡ Failed (ready h) p UnexpectedBreak
   breaks_not p (top ts) ls l e m = refl
   breaks_not p (inside f o ts) ls l e m = broken p f o ts true (not_is _ true (sym (ends_slot (inside f o ts) ls l e) ∙ m))
+
+-- a container is opened
+
+pub announces : (a : Argument) → ArgumentFits a → Announces (size_in a) (count_in a)
+announces a h = grind (arith, common_steps, nat_tests)
+
+pub opens : (end : ℕ) (f : Partial) (o : Opening) (ls : List Level) (l k : Level) → TakesItem f → HeadFits o → k ≡ level_in o [] → is_full o 0 ≡ false → Keeps f ls l
+    → Keeps (inside f o []) (ls ++ l ∷ []) k × (holding end (ready f) (open_in f) o [] ≡ state end (inside f o []) no_part)
+opens end f o ls l k takes fits is more kept = grind (arith, common_steps, nat_tests)
+
+pub ends_empty : (end : ℕ) (f : Partial) (o : Opening) → is_full o 0 ≡ true → Ends o [] × (holding end (ready f) (open_in f) o [] ≡ finished end (ready f) (open_in f) (built o []))
+ends_empty end f o full = grind (arith, common_steps, nat_tests)
 
 -- the same levels
 pub kept_as : (f : Partial) {around now : List Level} {l m : Level} → now ≡ around → m ≡ l → Keeps f around l → Keeps f now m

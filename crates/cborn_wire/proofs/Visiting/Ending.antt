@@ -1,8 +1,6 @@
 -- What a reader is before the first byte, at the end of the input, and at a head that isn't allowed; and what one that stops after one item says of the front of the bytes.
-use Rattle.std.proofs.lemmas.Grind.{common_steps}
-use Rattle.std.proofs.lemmas.Bool.Decides.{nat_tests}
 use Rattle.std.specs.Prelude.{◌≡◌, ◌+◌, ◌<◌, ◌≤◌, ◌∷◌, ◌++◌}
-use Rattle.cborn_wire.proofs.Common.{refl, sym, ap, ◌∙◌, subst, ℕ, List, [], length, length-drop, take, Option, Some, Err, inl, arith, take_all, AreBytes, Tree, Trees, trees, Wellformed, PlacedAll, Partial, top, inside, Part, no_part, part, VisitFault, WireReason, Truncated, Level, PartialHead, HeadReader, Fault, OpenContainer, Unfinished, nothing, State, Live, start, run, ready, open_in, unfinished, Stands, HereAt, IsFresh, IsInput, IsFed, MayEnd, levels, Missing, Reads, RefusesPiece, drop, append-nil, Ok, inr, length-take-le, take-append-drop, drop-drop, nil_from_length, no_item, depth, spelled, Fits, EndsHeld, Failed, ready_in, AtMostOneMore, ReadsItem}
+use Rattle.cborn_wire.proofs.Common.{refl, sym, ap, ◌∙◌, subst, ℕ, List, [], length, length-drop, take, Option, Some, Err, inl, arith, take_all, AreBytes, Tree, Trees, trees, Wellformed, PlacedAll, Partial, top, inside, Part, no_part, part, VisitFault, WireReason, Truncated, Level, PartialHead, HeadReader, Fault, OpenContainer, Unfinished, nothing, State, Live, start, run, ready, open_in, unfinished, Stands, HereAt, IsFresh, IsInput, IsFed, MayEnd, levels, Missing, Reads, RefusesPiece, drop, append-nil, Ok, inr, length-take-le, take-append-drop, drop-drop, nil_from_length, no_item, depth, spelled, Fits, EndsHeld, Failed, ready_in, AtMostOneMore, ReadsItem, common_steps, nat_tests, bytes-right}
 use Rattle.cborn_wire.specs.declared.faults.VisitFault.TheVariants as faults
 use Rattle.cborn_wire.specs.Faults.{Refused}
 use Rattle.cborn_wire.proofs.Spelled.SlotLaws.{cut_short}
@@ -10,7 +8,6 @@ use Rattle.cborn_wire.proofs.Spelled.FaultLaws.{fails_refused}
 use Rattle.cborn_wire.proofs.Spelled.OneReading.{ends_read}
 use Rattle.cborn_wire.proofs.Visiting.Taking.{outer_count}
 use Rattle.cborn_wire.proofs.Visiting.Pieces.{may_end_here}
-use Rattle.cborn_model.proofs.Bytes.{bytes-right}
 use Rattle.cborn_wire.specs.Reading.{EndsItem}
 use Rattle.cborn_wire.specs.declared.faults.WireFault.TheVariants as wire
 use Rattle.cborn_wire.proofs.Feeding.FeederLaws.{no_first}

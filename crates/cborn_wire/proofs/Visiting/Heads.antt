@@ -1,9 +1,6 @@
 -- What is made of the head of an array, a map or a tag and of a break, and of heads that are taken one after another off the front of a piece.
-use Rattle.std.proofs.lemmas.Grind.{common_steps}
-use Rattle.std.proofs.lemmas.Bool.Decides.{nat_tests}
 use Rattle.std.specs.Prelude.{◌≡◌, ◌+◌, ◌-◌, ◌<◌, ◌≤◌, ◌++◌, ◌/◌, ◌%◌, ◌∷◌}
-use Rattle.cborn_wire.proofs.Common.{refl, sym, ap, ◌∙◌, subst, inl, inr, ℕ, List, length, take, drop, arith, AreBytes, Partial, Part, no_part, Level, TakesHead, nothing, ready_in, run, IsReached, AtMostOneMore, AreOpen, ready, open_in, state, Keeps, Stands, [], get_or, leb, false, None, Array, Map, Head, slot, open_depth, major_at, seen_argument, IsHeadOf, info_at, is_always_bounded, head_reason, after_head}
-use Rattle.cborn_model.proofs.Bytes.{bytes-left}
+use Rattle.cborn_wire.proofs.Common.{refl, sym, ap, ◌∙◌, subst, inl, inr, ℕ, List, length, take, drop, arith, AreBytes, Partial, Part, no_part, Level, TakesHead, nothing, ready_in, run, IsReached, AtMostOneMore, AreOpen, ready, open_in, state, Keeps, Stands, [], get_or, leb, false, None, Head, slot, open_depth, major_at, seen_argument, IsHeadOf, info_at, is_always_bounded, head_reason, after_head, is_container, true, common_steps, nat_tests, bytes-left}
 use Rattle.cborn_wire.proofs.Machine.Running.{run-append}
 use Rattle.cborn_wire.proofs.Machine.SoundRuns.{reached_more}
 use Rattle.cborn_wire.proofs.Visiting.Pieces.{next_taken, taken_len}
@@ -15,15 +12,11 @@ use Rattle.cborn_wire.proofs.Visiting.Leaves.{taken_as}
 use Rattle.cborn_wire.proofs.Machine.WholeFront.{one_more_head}
 
 -- the major type of an initial byte
-
-pub array_major : (b : ℕ) → 128 ≤ b → b < 160 → Array ≡ major_at (b / 32)
-array_major b low high = ap major_at {x = 4} (omega arith)
-
-pub map_major : (b : ℕ) → 160 ≤ b → b < 192 → Map ≡ major_at (b / 32)
-map_major b low high = ap major_at {x = 5} (omega arith)
+pub container_at : (b : ℕ) → 128 ≤ b → b < 224 → is_container (major_at (b / 32)) ≡ true
+container_at b low high = grind (arith, common_steps, nat_tests)
 
 -- an array or a map has an indefinite length or a definite one
-bounded_not : (n : ℕ) → 4 ≤ n → n < 6 → is_always_bounded (major_at n) ≡ false
+pub bounded_not : (n : ℕ) → 4 ≤ n → n < 6 → is_always_bounded (major_at n) ≡ false
 bounded_not n h e = grind (arith, common_steps, nat_tests)
 
 pub endless_at : (x : List ℕ) → 0 < length x → 128 ≤ get_or x 0 0 → get_or x 0 0 < 192 → get_or x 0 0 % 32 ≡ 31 → IsHeadOf x (record { major = get_or x 0 0 / 32; argument = Endless }) 1

@@ -1,8 +1,6 @@
 -- What is read and made of a leaf.
-use Rattle.std.proofs.lemmas.Grind.{common_steps}
-use Rattle.std.proofs.lemmas.Bool.Decides.{nat_tests}
 use Rattle.std.specs.Prelude.{◌≡◌, ◌+◌, ◌-◌, ◌/◌, ◌%◌, ◌<◌, ◌≤◌, ◌∷◌, ◌++◌}
-use Rattle.cborn_wire.proofs.Common.{refl, sym, ap, ◌∙◌, subst, ℕ, List, [], length, take, drop, get_or, Bool, false, leb, None, arith, length-append, lt-leb, length-take-le, take-add, AreBytes, Width, Direct, Major, Unsigned, Negative, ByteString, TextString, Other, code, WidthFits, Tree, Trees, Uint, Nint, Simple, Partial, Part, no_part, put, TakesItem, TakesString, string_tree, Full, GivenHead, Level, LevelKind, major_at, IsHeadOf, Slot, OpenContainer, slot, open_depth, Next, info_at, info_for, head_reason, width_bytes, number, content_at, after_head, finished, run, AtMostOneMore, ready, open_in, state, slot_of, is_chunks, Stands, IsNoChunkSlot, IsGiven, IsLeafOf, IsLeaf, content_len, leaf_tree, TakesHead, State}
+use Rattle.cborn_wire.proofs.Common.{refl, sym, ap, ◌∙◌, subst, ℕ, List, [], length, take, drop, get_or, Bool, false, leb, None, arith, length-append, lt-leb, length-take-le, take-add, AreBytes, Width, Direct, Major, Unsigned, Negative, ByteString, TextString, Other, code, WidthFits, Tree, Trees, Uint, Nint, Simple, Partial, Part, no_part, put, TakesItem, TakesString, string_tree, Full, GivenHead, Level, LevelKind, major_at, IsHeadOf, Slot, OpenContainer, slot, open_depth, Next, info_at, info_for, head_reason, width_bytes, number, content_at, after_head, finished, run, AtMostOneMore, ready, open_in, state, slot_of, is_chunks, Stands, IsNoChunkSlot, IsGiven, IsLeafOf, IsLeaf, content_len, leaf_tree, TakesHead, State, common_steps, nat_tests}
 use Rattle.cborn_model.specs.Heads as heads
 use Rattle.cborn_model.specs.declared.visitors.StringKind.{StringKind}
 use Rattle.cborn_model.specs.declared.visitors.StringKind.TheVariants.{OfBytes, OfText}

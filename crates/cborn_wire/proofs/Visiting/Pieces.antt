@@ -1,7 +1,6 @@
 -- A piece is read by its fronts.
 use Rattle.std.specs.Prelude.{◌≡◌, ◌+◌, ◌-◌, ◌≤◌, ◌++◌}
-use Rattle.cborn_wire.proofs.Common.{refl, sym, ap, ◌∙◌, subst, ℕ, List, [], length, take, drop, Result, Ok, Err, inl, inr, arith, append_assoc, length-append, length-take-le, take-append-drop, take_all, take_rest, take-append-le, nil_from_length, AreBytes, Trees, Partial, Part, no_part, part, VisitFault, Refused, Memory, WireReason, Level, HeadReader, nothing, State, Live, Failed, ready_in, start, run, AtMostOneMore, unfinished, open_in, Missing, Stands, HereAt, Here, IsReached, TakesPiece, IsFed, MayEnd, Reads, ReadsItem, next_head}
-use Rattle.cborn_model.proofs.Bytes.{bytes-append}
+use Rattle.cborn_wire.proofs.Common.{refl, sym, ap, ◌∙◌, subst, ℕ, List, [], length, take, drop, Result, Ok, Err, inl, inr, arith, append_assoc, length-append, length-take-le, take-append-drop, take_all, take_rest, take-append-le, nil_from_length, AreBytes, Trees, Partial, Part, no_part, part, VisitFault, Refused, Memory, WireReason, Level, HeadReader, nothing, State, Live, Failed, ready_in, start, run, AtMostOneMore, unfinished, open_in, Missing, Stands, HereAt, Here, IsReached, TakesPiece, IsFed, MayEnd, Reads, ReadsItem, next_head, bytes-append}
 use Rattle.cborn_wire.proofs.Machine.Running.{run-append}
 use Rattle.cborn_wire.proofs.Visiting.Taking.{bytes-take, outer_count}
 

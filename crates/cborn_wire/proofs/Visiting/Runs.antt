@@ -1,10 +1,7 @@
 -- What is read and made of leaves that are taken several at a time.
-use Rattle.std.proofs.lemmas.Grind.{common_steps}
-use Rattle.std.proofs.lemmas.Bool.Decides.{nat_tests}
 use Rattle.std.specs.Prelude.{◌≡◌, ◌⊎◌, ◌+◌, ◌-◌, ◌/◌, ◌^◌, ◌<◌, ◌≤◌, ◌∷◌, ◌++◌}
-use Rattle.cborn_wire.proofs.Common.{refl, sym, ap, ◌∙◌, subst, ℕ, List, [], length, take, drop, true, leb, eqb-true, Some, arith, append-nil, length-append, drop-take, take-append-drop, take-append-le, take_all, length-take-le, take-add, AreBytes, Width, Major, Unsigned, Negative, Given, head, WidthFits, least, Tree, Uint, Nint, Partial, Part, IsFree, no_part, put, TakesItem, IsInteger, IsShortLeaf, AreShortIntegers, IsShortPair, text_in, puts, InArray, AtKey, Level, GivenHead, major_at, slot, open_depth, finished, run, ready, open_in, state, levels, Keeps, with_part, lessened, is_array, is_at_key, room_in, IsLeafOf, IsLeaf, content_len, leaf_tree, AfterLeaves, TakesRun}
+use Rattle.cborn_wire.proofs.Common.{sym, ap, ◌∙◌, subst, ℕ, List, [], length, take, drop, true, leb, eqb-true, Some, arith, append-nil, length-append, drop-take, take-append-drop, take-append-le, take_all, length-take-le, take-add, AreBytes, Width, Major, Unsigned, Negative, Given, head, WidthFits, least, Tree, Uint, Nint, Partial, Part, IsFree, no_part, put, TakesItem, IsInteger, IsShortLeaf, AreShortIntegers, IsShortPair, text_in, puts, InArray, AtKey, Level, GivenHead, major_at, slot, open_depth, finished, run, ready, open_in, state, levels, Keeps, with_part, lessened, is_array, is_at_key, room_in, IsLeafOf, IsLeaf, content_len, leaf_tree, AfterLeaves, TakesRun, common_steps, nat_tests, bytes-right}
 use Rattle.cborn_model.specs.declared.visitors.LeafPair.{LeafPair}
-use Rattle.cborn_model.proofs.Bytes.{bytes-right}
 use Rattle.cborn_wire.specs.declared.levels.LevelKind.TheVariants.{Array as AnArray, EndlessArray}
 use Rattle.cborn_wire.proofs.HeadReading.HeadSteps.{head_front}
 use Rattle.cborn_wire.proofs.Machine.Running.{run-append}
@@ -132,17 +129,7 @@ room_left l k j h e g = grind (arith, common_steps, nat_tests)
 module _ (holds : Partial → Type 0) (around : List Level) where
   go : (place end : ℕ) (f : Partial) (l : Level) (x : List ℕ) (t : Tree) (ts : List Tree) → end ≡ place + length x → Keeps f around l → TakesItem f → InArray f → AreShortIntegers place x (t ∷ ts) → HasRoom l (length (t ∷ ts)) → holds (puts f (t ∷ ts))
       → AfterLeaves place end f holds around (record l { missing = lessened l.missing (length ts) }) x
-  go place end f l x t [] e kept takes in_it (y, z, cut, is, short, none) room held =
-      let all : x ≡ y = cut ∙ ap (λ r. y ++ r) none ∙ append-nil y in
-      record {
-        before = f;
-        last = t;
-        held = held;
-        levels = subst (λ m. Keeps f around (record l { missing = m })) (omega (arith, missing_below f around l kept.0)) kept;
-        takes = takes;
-        same = refl;
-        is = λ limit. ap (run limit (state place f no_part)) all ∙ integer_read limit place f y t takes is short ∙ ap (λ j. finished j (ready f) (open_in f) t) (omega (arith, e, ap length all));
-      }
+  go place end f l x t [] e kept takes in_it (y, z, cut, is, short, none) room held = grind (arith, common_steps, nat_tests, append-nil, missing_below, integer_read)
   go place end f l x t (u ∷ ts) e kept takes in_it (y, z, cut, is, short, more) room held =
       let next = record l { missing = lessened l.missing 1 } in
       let fits = missing_below f around l kept.0 in
@@ -171,9 +158,4 @@ module _ (holds : Partial → Type 0) (around : List Level) where
 
 pub integers_some : (place n : ℕ) (x : List ℕ) (ts : List Tree) → n ≤ length x → AreShortIntegers place (take n x) ts → 0 < length ts → 0 < n
 integers_some place n x [] whole are some = absurd (omega arith)
-integers_some place n x (t ∷ ts) whole (y, z, cut, is, short, more) some = omega (arith, length-take-le n x whole, ap length cut, length-append y z, long t y is short)
-  where
-    long : (t : Tree) (y : List ℕ) → IsInteger t → IsShortLeaf place y t → 0 < length y
-    long (Uint q w n) y is s = omega (arith, ap length s.spells)
-    long (Nint q w n) y is s = omega (arith, ap length s.spells)
-    long t y is s = absurd is
+integers_some place n x (t ∷ ts) whole (y, z, cut, is, short, more) some = grind (arith, common_steps, nat_tests, length-take-le, length-append)

@@ -1,12 +1,9 @@
 -- What is taken off the front of a piece.
-use Rattle.std.proofs.lemmas.Grind.{common_steps}
-use Rattle.std.proofs.lemmas.Bool.Decides.{nat_tests}
 use Rattle.std.specs.Prelude.{◌≡◌, ◌+◌, ◌/◌, ◌%◌, ◌<◌, ◌≤◌, ◌∷◌, ◌++◌}
-use Rattle.cborn_wire.proofs.Common.{refl, sym, ap, ◌∙◌, subst, ℕ, List, [], length, take, drop, get_or, Bool, false, leb, Option, Some, None, arith, length-append, add-one, take-append-drop, AreBytes, Width, Major, Argument, Given, Trees, Partial, top, inside, Part, no_part, TakesItem, TakesString, VisitFault, Refused, Memory, StringKind, OfBytes, OfText, major_of, Slot, chunk, OpenContainer, slot, open_depth, IsNoString, AreOpen, Head, Level, PartialHead, major_at, seen_argument, IsHeadOf, Info, Next, info_at, info_for, is_bad_chunk, head_reason, plain, width_bytes, argument_of, nothing, Unfinished, gathering, State, Live, run, IsReached, open_in, state, level_in, levels, Keeps, Takes, slot_of, Stands, FailsAs, HereAt, true}
-use Rattle.cborn_model.proofs.Bytes.{bytes-left}
+use Rattle.cborn_wire.proofs.Common.{refl, sym, ap, ◌∙◌, subst, ℕ, List, [], length, take, drop, get_or, Bool, leb, Option, Some, None, arith, length-append, add-one, take-append-drop, AreBytes, Width, Major, Argument, Given, Trees, Partial, top, inside, Part, no_part, VisitFault, Refused, Memory, Slot, OpenContainer, slot, open_depth, IsNoString, AreOpen, Head, Level, PartialHead, major_at, seen_argument, IsHeadOf, Info, Next, info_at, info_for, head_reason, plain, width_bytes, argument_of, nothing, Unfinished, gathering, State, Live, run, IsReached, open_in, state, level_in, levels, Keeps, Takes, slot_of, Stands, FailsAs, HereAt, common_steps, nat_tests, bytes-left}
 use Rattle.cborn_wire.proofs.Machine.SoundRuns.{depth_is_length, sound, info_is}
 use Rattle.cborn_wire.proofs.Machine.Pieces.{major_of_head, info_of_head}
-use Rattle.cborn_wire.proofs.Machine.SoundSteps.{is_clear, free_of, shallow_open}
+use Rattle.cborn_wire.proofs.Machine.SoundSteps.{shallow_open}
 use Rattle.cborn_wire.proofs.Machine.Running.{run-append, failed_run}
 use Rattle.cborn_wire.proofs.Visiting.Counting.{top_slot}
 

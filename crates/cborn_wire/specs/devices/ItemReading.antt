@@ -8,7 +8,7 @@ use Rattle.cborn_wire.specs.Visits.{wire_fault}
 use Rattle.cborn_wire.specs.Reading.{IsFirstItem, EndsItem}
 use Rattle.cborn_wire.specs.declared.head_readers.PartialHead.{PartialHead}
 use Rattle.cborn_wire.specs.declared.nodes.OpenString.{OpenString}
-use Rattle.cborn_wire.specs.declared.item_readers.ItemReader.{ItemReader}
+use Rattle.cborn_wire.specs.declared.feeders.ItemReader.{ItemReader}
 use Rattle.cborn_wire.specs.shared.Machine.{Unfinished, State, Live, start, run, Stops}
 use Rattle.cborn_wire.specs.shared.Visiting.{open_in, unfinished, seen_head, IsFed, FailsAs}
 use Rattle.cborn_wire.specs.devices.OpenNodes.{seen_string, seen_nodes, IsHeld}

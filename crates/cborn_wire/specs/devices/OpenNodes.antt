@@ -4,8 +4,8 @@ use Rattle.std.specs.Option.{option_to_list}
 use Rattle.cborn_model.specs.Tree.{Tree}
 use Rattle.cborn_model.specs.Partial.{an_array, a_map, a_tag, in_chunks, Partial, top, inside, Part, no_part, part, built}
 use Rattle.cborn_model.specs.shared.Walks.{flat, string_of}
-use Rattle.cborn_wire.specs.declared.open_nodes.OpenNode.{OpenNode}
-use Rattle.cborn_wire.specs.declared.open_nodes.OpenNode.TheVariants.{Input, Items, Pairs, Tag, Chunks}
+use Rattle.cborn_wire.specs.declared.nodes.OpenNode.{OpenNode}
+use Rattle.cborn_wire.specs.declared.nodes.OpenNode.TheVariants.{Input, Items, Pairs, Tag, Chunks}
 use Rattle.cborn_wire.specs.declared.nodes.OpenString.{OpenString}
 use Rattle.cborn_wire.specs.declared.nodes.Nodes.{Nodes}
 

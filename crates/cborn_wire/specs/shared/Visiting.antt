@@ -14,8 +14,6 @@ use Rattle.cborn_wire.specs.SlotFaults.{needs_item}
 use Rattle.cborn_wire.specs.HeadReading.{major_at}
 use Rattle.cborn_wire.specs.shared.Ground.{place_of}
 use Rattle.cborn_wire.specs.shared.Machine.{width_bytes, Unfinished, argument_of, content_of, nothing, gathering, State, Live, Failed, ready_in, start, run, AtMostOneMore}
-use Rattle.cborn_wire.specs.declared.refusals.Slot as refusals
-use Rattle.cborn_wire.specs.declared.refusals.Slot.TheVariants.{Item, ItemOrBreak, Chunk}
 use Rattle.cborn_wire.specs.declared.levels.LevelKind.{LevelKind}
 use Rattle.cborn_wire.specs.declared.levels.LevelKind.TheVariants.{Sequence, Array, Map, GreatMap, Tag, EndlessArray, EndlessMap, Chunks}
 use Rattle.cborn_wire.specs.declared.levels.Level.{Level}
@@ -155,12 +153,6 @@ slot_of EndlessArray m = element_or_end
 slot_of EndlessMap m = if is_even m then element_or_end else item
 slot_of (Chunks c) m = chunk c
 slot_of k m = item
-
--- a slot as the code knows it
-abbrev pub seen_slot : refusals.Slot → Slot
-seen_slot Item = item
-seen_slot ItemOrBreak = element_or_end
-seen_slot (Chunk k) = chunk k
 
 -- the code's one of all in which the same heads are allowed
 abbrev pub plain : Slot → Slot

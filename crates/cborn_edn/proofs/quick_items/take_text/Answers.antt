@@ -6,8 +6,8 @@ use Rattle.cborn_edn.proofs.quick_items.take_text.Goals as goal
 pub returns-in-Some : goal.returns-in-Some
 returns-in-Some g c =
     let at = c.args.here.now.at in
-    let len = c.in-Some.found.len in
-    let stop = c.in-Some.found.stop in
+    let len = c.in-Some.len in
+    let stop = c.in-Some.stop in
     let bytes = c.as_bytes-bytes.result.now in
     let size : len ≡ at + 1 + len - (at + 1) = omega arith in
     let found = subst (λ n. IsTextAt c.args.source.profile bytes at stop (take n (drop (at + 1) bytes))) size c.in-Some.ensures.taken in

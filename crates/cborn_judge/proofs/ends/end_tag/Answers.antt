@@ -23,7 +23,7 @@ returns-then-number-eq2 c order ts x z ends is start inner =
       subst (λ k. Coded order (Tagged l.place w k t) code) same coded,
       new,
       subst (λ k. FindsFlaw (FlawAt (Tagged l.place w k t)) c.in_ok-inner.inner.flaw) same flaw,
-      λ sound none. both_found (LongAt l.place w n) (LooseAt l.place n t) c.head_defect.result c.in_ok-inner.inner.defect c.earliest-found.result c.head_defect.ensures (subst (λ k. FindsDefect (LooseAt l.place k t) c.in_ok-inner.inner.defect) same (loose none)) c.earliest-found.ensures,
+      λ sound none. both_found (LongAt l.place w n) (LooseAt l.place n t) c.head_defect-long.result c.in_ok-inner.inner.defect c.earliest-defect.result c.head_defect-long.ensures (subst (λ k. FindsDefect (LooseAt l.place k t) c.in_ok-inner.inner.defect) same (loose none)) c.earliest-defect.ensures,
     )
 
 pub returns-then-level : goal.returns-then-level
@@ -37,7 +37,7 @@ returns-then-level c order ts x z ends is start inner =
       inr (refl, tag_nothing l.place w n t c.if-number-eq2.false c.if-number-eq3.false sound),
       cut l.start x z c.args.out.now.items c.truncate.new.self.items is start c.truncate.ensures.items,
       tag_flawless l.place w n t c.if-number-eq2.false c.if-number-eq3.false,
-      λ b e. tag_long l.place w n t c.head_defect.result c.if-number-eq2.false c.if-number-eq3.false c.head_defect.ensures,
+      λ b e. tag_long l.place w n t c.head_defect-long.result c.if-number-eq2.false c.if-number-eq3.false c.head_defect-long.ensures,
     )
 
 pub returns-else-level : goal.returns-else-level
@@ -51,5 +51,5 @@ returns-else-level c order ts x z ends is start inner =
       tag_coded order l.place w n t inner.front inner.contents c.if-number-eq2.false c.if-number-eq3.false c.ranges.number.fits inner.begins encoded,
       is ∙ ap (λ y. x ++ y) inner.whole,
       tag_flawless l.place w n t c.if-number-eq2.false c.if-number-eq3.false,
-      λ b e. tag_long l.place w n t c.head_defect.result c.if-number-eq2.false c.if-number-eq3.false c.head_defect.ensures,
+      λ b e. tag_long l.place w n t c.head_defect-long.result c.if-number-eq2.false c.if-number-eq3.false c.head_defect-long.ensures,
     )

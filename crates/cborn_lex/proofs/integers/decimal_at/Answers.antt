@@ -2,7 +2,7 @@ use Rattle.std.specs.Prelude.{◌+◌, ◌-◌, ◌*◌, ◌≡◌}
 use Rattle.cborn_lex.proofs.Common.{sym, ap, ◌∙◌, arith, inr, get_or, false≢true, eq-eqb, eqb-true, ltb-true}
 use Rattle.cborn_lex.proofs.Decimals.{digit_more, digit_numeral, below_more, fits_more, decimal_value, decimal_run, no_decimal}
 use Rattle.cborn_lex.proofs.integers.decimal_at.Goals as goal
-use Rattle.cborn_lex.proofs.integers.decimal_at.Goals.{then-len-eq0-via-then-len-eq0, then-len-eq0-via-else-len-eq0+then-tail-eq48, else-len-tail-via-then-len-tail+else-goes_on, else-len-tail-via-else-len-tail, then-len-gt1, else-len-gt1}
+use Rattle.cborn_lex.proofs.integers.decimal_at.Goals.{then-len-eq0-via-then-len-eq0, then-len-eq0-via-else-len-eq0+then-tail-eq48, else-len-tail-via-then-len-tail+else-continues_number, else-len-tail-via-else-len-tail, then-len-gt1, else-len-gt1}
 
 pub overflow_mul-n : goal.overflow_mul-n
 overflow_mul-n c =
@@ -32,12 +32,12 @@ returns-then-len-eq19-clause-none c =
 pub returns-then-len-eq0-clause-none : goal.returns-then-len-eq0-clause-none
 returns-then-len-eq0-clause-none c = grind (arith, else-len-gt1, eqb-true, ltb-true, no_decimal, then-len-eq0-via-else-len-eq0+then-tail-eq48, then-len-eq0-via-then-len-eq0, then-len-gt1)
 
-pub returns-then-goes_on-clause-none : goal.returns-then-goes_on-clause-none
-returns-then-goes_on-clause-none c = grind (arith, no_decimal)
+pub returns-then-continues_number-clause-none : goal.returns-then-continues_number-clause-none
+returns-then-continues_number-clause-none c = grind (arith, no_decimal)
 
 pub returns-clause-run : goal.returns-clause-run
 returns-clause-run c = decimal_run c.digits.len c.args.tail.now c.digits.invariant.2 (λ h. elim c.else-len-tail.branch [
-  | else-len-tail-via-then-len-tail+else-goes_on w ↦ sym w.goes_on.ensures ∙ w.if-goes_on.false
+  | else-len-tail-via-then-len-tail+else-continues_number w ↦ sym w.continues_number.ensures ∙ w.if-continues_number.false
   | else-len-tail-via-else-len-tail w ↦ absurd (omega (arith, h, w.if-len-tail.false))
 ])
 

@@ -1,10 +1,23 @@
-use Rattle.cborn_model.proofs.Common.{arith, item_value}
-use Rattle.cborn_model.proofs.Listed.Deciding.{either_way, granted, refuted, passed, failed}
+use Rattle.std.specs.Prelude.{◌≡◌, ◌↔◌}
+use Rattle.cborn_model.proofs.Common.{rules, arith, List, Bool, IsTrue, item_value, Value, pairs_of, Same, HasNewKeys, HasPair, Gives}
+use Rattle.cborn_model.proofs.Numbers.OneMagnitude.{equal_magnitudes}
+use Rattle.cborn_model.proofs.Listed.Deciding.{granted, refuted, passed, failed}
 use Rattle.cborn_model.proofs.Listed.Values.{height_of_item, height_of_pair}
 use Rattle.cborn_model.proofs.SameItems.Comparing.{proper_item, proper_pair, proper_parts, same_by_item, same_item, same_length, all_have_by_pair, has_at, new_by_pair, gives_at, pairs, one_more_had, given_last, given_first, new_to_all, same_size, had, maps_match}
 use Rattle.cborn_model.proofs.SameItems.Sameness.{same_itself}
 use Rattle.cborn_model.proofs.SameItems.Matching.{not_new, given_has, given_only}
 use Rattle.cborn_model.proofs.comparisons.+same_items.Goals as goal
+
+pub same_items-returns-then-negative-other_negative : goal.same_items-returns-then-negative-other_negative
+same_items-returns-then-negative-other_negative t c =
+    let first = rw c.in-Int-Int.is-0 at c.requires.first in
+    let second = rw c.in-Int-Int.is-1 at c.requires.second in
+    let m = c.in-Int-Int.magnitude in
+    let n = c.in-Int-Int.other_magnitude in
+    let f : IsTrue c.eq.result ↔ m ≡ n = search rules in
+    let same = equal_magnitudes m n c.eq.result f c.as_slice.ensures.bytes c.as_slice-then-negative-other_negative.ensures.bytes first.1 second.1 in
+    let e = c.if-negative-other_negative.true in
+    rw (c.in-Int-Int.is-0, c.in-Int-Int.is-1) (grind (arith, same))
 
 pub same_arrays-returns-then-a-b : goal.same_arrays-returns-then-a-b
 same_arrays-returns-then-a-b t c = refuted (λ h. c.if-a-b.true (same_length c.args.a.now c.args.b.now h))
@@ -41,34 +54,32 @@ pub same_maps-returns : goal.same_maps-returns
 same_maps-returns t c =
     granted (maps_match c.args.a.now c.args.b.now (omega arith) c.requires.first_keys (all_have_by_pair c.args.a.now _ (λ k d h. c.loop-i.invariant k d (omega (arith, h)))))
 
-pub has_pair-returns-in-Some : goal.has_pair-returns-in-Some
-has_pair-returns-in-Some t c =
-    let f = c.same_items.ensures in
-    (λ y. given_has _ _ _ (pairs c.args.pairs.now) c.in-Some.ensures.0 (f.0 y), λ h. f.1 (given_only _ _ _ (pairs c.args.pairs.now) c.requires.keys c.in-Some.ensures.0 h))
-
-pub has_pair-returns-in-None : goal.has_pair-returns-in-None
-has_pair-returns-in-None t c =
-    let k = item_value c.args.key.now in
-    refuted (λ h. not_new k k (item_value c.args.value.now) (pairs c.args.pairs.now) c.in-None.ensures (same_itself k) h)
-
-pub value_from-value_of-requires : goal.value_from-value_of-requires
-value_from-value_of-requires t c =
+pub has_pair-value_of-requires : goal.has_pair-value_of-requires
+has_pair-value_of-requires t c =
     let parts = proper_parts c.split_at.result.0.now c.split_at.result.1.now (rw c.split_at.ensures.by_index.0 at c.requires.pairs) in
     (omega arith, (c.requires.key, parts.1))
 
-pub value_from-value_of-requires-in-None : goal.value_from-value_of-requires-in-None
-value_from-value_of-requires-in-None t c =
+pub has_pair-value_of-requires-in-None : goal.has_pair-value_of-requires-in-None
+has_pair-value_of-requires-in-None t c =
     let parts = proper_parts c.split_at.result.0.now c.split_at.result.1.now (rw c.split_at.ensures.by_index.0 at c.requires.pairs) in
     (omega arith, (c.requires.key, parts.0))
 
-pub value_from-returns-in-Some : goal.value_from-returns-in-Some
-value_from-returns-in-Some t c =
-    (given_last _ _ c.args.pairs.now _ _ c.split_at.ensures.by_index.0 c.in-Some.ensures.0, c.in-Some.ensures.1)
+-- the value that is given at the key decides
+decided : (r : Bool) (k v w : Value) (ps : List (Value × Value)) → HasNewKeys (pairs_of ps) → Gives k w ps → (IsTrue r ↔ Same v w) → (IsTrue r ↔ HasPair (k, v) ps)
+decided r k v w ps new given f = (λ y. given_has k v w ps given (f.0 y), λ h. f.1 (given_only k v w ps new given h))
 
-pub value_from-returns-in-None : goal.value_from-returns-in-None
-value_from-returns-in-None t c =
-    let parts = c.split_at.ensures.by_index.0 in
-    either_way c.value_of-in-None.result (λ h. new_to_all _ c.args.pairs.now _ _ parts h c.in-None.ensures) (λ v h. (given_first _ _ c.args.pairs.now _ _ parts h.0, h.1)) c.value_of-in-None.ensures
+pub has_pair-returns-in-Some : goal.has_pair-returns-in-Some
+has_pair-returns-in-Some t c =
+    decided _ _ _ _ (pairs c.args.pairs.now) c.requires.keys (given_last _ _ c.args.pairs.now _ _ c.split_at.ensures.by_index.0 c.in-Some.ensures.0) c.same_items.ensures
+
+pub has_pair-returns-in-Some-value_of : goal.has_pair-returns-in-Some-value_of
+has_pair-returns-in-Some-value_of t c =
+    decided _ _ _ _ (pairs c.args.pairs.now) c.requires.keys (given_first _ _ c.args.pairs.now _ _ c.split_at.ensures.by_index.0 c.in-Some-value_of.ensures.0) c.same_items-in-Some-value_of.ensures
+
+pub has_pair-returns-in-None-value_of : goal.has_pair-returns-in-None-value_of
+has_pair-returns-in-None-value_of t c =
+    let k = item_value c.args.key.now in
+    refuted (λ h. not_new k k (item_value c.args.value.now) (pairs c.args.pairs.now) (new_to_all k c.args.pairs.now _ _ c.split_at.ensures.by_index.0 c.in-None-value_of.ensures c.in-None.ensures) (same_itself k) h)
 
 pub value_of-same_items-requires : goal.value_of-same_items-requires
 value_of-same_items-requires t c =

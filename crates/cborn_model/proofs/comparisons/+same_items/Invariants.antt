@@ -28,6 +28,3 @@ decreases-has_pair l = 5 * max (height (item_value l.key.now)) (height (item_val
 
 abbrev pub decreases-value_of : goal.decreases-value_of
 decreases-value_of l = 5 * height (item_value l.key.now) + 1
-
-abbrev pub decreases-value_from : goal.decreases-value_from
-decreases-value_from l = 5 * height (item_value l.key.now) + 2

@@ -8,7 +8,7 @@ use Rattle.cborn_model.proofs.spellings.+has_room.Goals as goal
 pub has_room-returns-then-size_fits : goal.has_room-returns-then-size_fits
 has_room-returns-then-size_fits t c =
     let f = c.items_have_room.ensures in
-    rw (← c.node.view_is, c.in-Items.is) (items_and_size c.node.inside.place c.in-Items.size c.len.result c.in-Items.items.items c.items_have_room.result (search rules) (passed _ c.if-size_fits.true c.size_fits.ensures) (rw c.deref-then-size_fits.ensures.value at f))
+    rw (← c.node.view_is, c.in-Items.is) (items_and_size c.node.inside.place c.in-Items.size c.len.result c.in-Items.items.items c.items_have_room.result (search rules) (passed _ c.if-size_fits.true c.size_fits.ensures) (rw c.deref.ensures.value at f))
 
 pub has_room-returns-else-size_fits : goal.has_room-returns-else-size_fits
 has_room-returns-else-size_fits t c =

@@ -41,7 +41,7 @@ has_proper_pairs-returns t c =
 
 pub is_proper-returns-in-Items : goal.is_proper-returns-in-Items
 is_proper-returns-in-Items t c =
-    rw (c.in-Items.is) (array_proper c.as_slice.result.now c.in-Items.items c.are_proper.result c.as_slice.ensures c.are_proper.ensures)
+    rw (c.in-Items.is) (array_proper c.as_slice-in-Items.result.now c.in-Items.items c.are_proper.result c.as_slice-in-Items.ensures c.are_proper.ensures)
 
 pub is_proper-returns-then-has_proper_pairs : goal.is_proper-returns-then-has_proper_pairs
 is_proper-returns-then-has_proper_pairs t c =

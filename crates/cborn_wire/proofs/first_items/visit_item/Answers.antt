@@ -1,7 +1,6 @@
-use Rattle.cborn_wire.proofs.Common.{refl, ap, ◌∙◌, subst, [], Err, length, drop, take, inl, inr, arith, take_rest, top, no_part, ReadsItem}
+use Rattle.cborn_wire.proofs.Common.{refl, ap, ◌∙◌, subst, [], Err, length, drop, take, inl, inr, arith, take_rest, top, no_part, ReadsItem, are_bytes}
 use Rattle.std.proofs.Common.{length-drop, ◌-◌, ◌∷◌}
 use Rattle.cborn_wire.proofs.Visiting.Ending.{refused_first, first_whole, first_cut, fresh_fed}
-use Rattle.cborn_model.proofs.Bytes.{are_bytes}
 use Rattle.cborn_wire.proofs.first_items.visit_item.Goals as goal
 
 pub read-requires-clause-fed : goal.read-requires-clause-fed
@@ -24,9 +23,9 @@ returns-in-Ok-2 g c =
     let read = c.in-Ok.ensures in
     let fresh = fresh_fed (g.V.Visitor.holds c.args.visitor.now) _ _ c.args.limit from c.new-reader.result c.requires.nothing c.new-levels.ensures c.new-reader.ensures in
     let cut = c.is_whole.ensures.cut c.if-is_whole.false in
-    first_cut c.args.limit from bytes _ (take_rest bytes from) (g.V.Visitor.holds c.read.new.visitor) c.read.new.levels.outer.items c.read.new.levels.inner c.read.new.self c.in-Ok.len c.requires.start read.within (read.limit ∙ c.new-reader.ensures.0)
+    rw c.at.ensures (first_cut c.args.limit from bytes _ (take_rest bytes from) (g.V.Visitor.holds c.read.new.visitor) c.read.new.levels.outer.items c.read.new.levels.inner c.read.new.self c.in-Ok.len c.requires.start read.within (read.limit ∙ c.new-reader.ensures.0)
     (read.fed from [] fresh) (rw read.limit (read.item refl from [] fresh))
-    (elim (read.stops) [ inl all ↦ all | inr ends ↦ absurd (cut ends) ]) cut
+    (elim (read.stops) [ inl all ↦ all | inr ends ↦ absurd (cut ends) ]) cut)
 
 pub returns : goal.returns
 returns g c =

@@ -1,5 +1,4 @@
-use Rattle.cborn_wire.proofs.Common.{code}
-use Rattle.cborn_model.proofs.Bytes.{are_bytes}
+use Rattle.cborn_wire.proofs.Common.{code, are_bytes}
 use Rattle.cborn_wire.proofs.HeadReading.HeadFronts.{code_small, wide_front}
 use Rattle.cborn_wire.proofs.heads.read_wide.Goals as goal
 

@@ -1,5 +1,4 @@
-use Rattle.cborn_wire.proofs.Common.{rules, subst, List, ℕ, take, drop, length, arith, length-take-le, Fixed, head, argument, ended_size}
-use Rattle.std.proofs.lemmas.Grind.{common_steps}
+use Rattle.cborn_wire.proofs.Common.{rules, subst, List, ℕ, take, drop, length, arith, length-take-le, Fixed, head, argument, ended_size, common_steps}
 use Rattle.std.specs.Prelude.{None, ◌≡◌, ◌+◌, ◌++◌, ◌≤◌}
 use Rattle.cborn_wire.proofs.Shifting.{placed}
 use Rattle.cborn_wire.proofs.placed_heads.set_wide_head.Goals as goal

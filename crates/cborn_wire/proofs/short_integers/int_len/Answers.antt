@@ -1,6 +1,5 @@
 use Rattle.std.specs.Prelude.{◌≤◌}
-use Rattle.cborn_wire.proofs.Common.{ℕ, subst}
-use Rattle.cborn_model.proofs.Bytes.{are_bytes}
+use Rattle.cborn_wire.proofs.Common.{ℕ, subst, are_bytes}
 use Rattle.cborn_wire.proofs.ShortIntegers.{integer_found}
 use Rattle.cborn_wire.proofs.short_integers.int_len.Goals as goal
 

@@ -1,6 +1,5 @@
 use Rattle.std.specs.Prelude.{◌≡◌}
-use Rattle.cborn_wire.proofs.Common.{refl, ◌∙◌, [], length, Truncated}
-use Rattle.cborn_model.proofs.Bytes.{are_bytes}
+use Rattle.cborn_wire.proofs.Common.{refl, ◌∙◌, [], length, Truncated, are_bytes}
 use Rattle.cborn_wire.proofs.Visiting.Ending.{fresh_fed, whole_piece, cut_piece, refused_piece}
 use Rattle.cborn_wire.proofs.visits.visit_in.Goals as goal
 

@@ -1,7 +1,7 @@
 use Rattle.std.specs.Prelude.{◌≡◌}
 use Rattle.cborn_judge.proofs.Common.{rules, ℕ, List, Option, None, Some, refl, subst, Ordering, Tree, trees, top, FindsFlaw, FindsDefect, Finds, DefectInAll, FlawIn}
 use Rattle.cborn_judge.specs.declared.defects.Defect.{Defect}
-use Rattle.cborn_judge.specs.declared.flaws.Flaw.{Flaw}
+use Rattle.cborn_judge.specs.declared.faults.Flaw.{Flaw}
 use Rattle.cborn_judge.proofs.encoders.Encoder.departs.Goals as goal
 
 -- where there is neither a flaw nor a defect, none was found

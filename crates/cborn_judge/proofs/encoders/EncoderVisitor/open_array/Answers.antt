@@ -2,4 +2,4 @@ use Rattle.cborn_judge.proofs.Common.{refl, an_array, on_ok}
 use Rattle.cborn_judge.proofs.encoders.EncoderVisitor.open_array.Goals as goal
 
 pub returns-clause-held : goal.returns-clause-held
-returns-clause-held g c = on_ok c.open.result (λ held f free old. held f (an_array c.args.place c.args.size c.args.count) ((refl, refl), refl, refl) old) c.open.ensures.held
+returns-clause-held g c = on_ok c.open.result (λ held f free old. held f (an_array c.args.place c.args.size c.args.count) (refl, refl) old) c.open.ensures

@@ -1,6 +1,5 @@
-use Rattle.cborn_wire.proofs.Common.{sym, subst, Some, Err, arith, Feeding, Feeds, held, IsReached, open_in, seen_nodes, pending, seen}
+use Rattle.cborn_wire.proofs.Common.{sym, subst, Some, Err, arith, Feeding, Feeds, held, IsReached, open_in, seen_nodes, pending, seen, are_bytes}
 use Rattle.cborn_wire.proofs.Machine.SoundRuns.{reached_more}
-use Rattle.cborn_model.proofs.Bytes.{are_bytes}
 use Rattle.cborn_wire.proofs.Feeding.FeederLaws.{accepts, fails}
 use Rattle.cborn_wire.proofs.feeders.Feeder.feed.Goals as goal
 

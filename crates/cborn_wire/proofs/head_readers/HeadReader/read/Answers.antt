@@ -1,6 +1,5 @@
 use Rattle.std.specs.Prelude.{◌++◌}
-use Rattle.cborn_wire.proofs.Common.{Err, false≢true, sym, ◌∙◌, refl, subst, take, arith, length-append, length-take-le, err_from_is_err_and, AreBytes, ReadsItem}
-use Rattle.cborn_model.proofs.Bytes.{bytes-right, are_bytes}
+use Rattle.cborn_wire.proofs.Common.{Err, false≢true, sym, ◌∙◌, refl, subst, take, arith, length-append, length-take-le, err_from_is_err_and, AreBytes, ReadsItem, bytes-right, are_bytes}
 use Rattle.cborn_wire.proofs.Visiting.Pieces.{next_cut, next_taken, next_fed, next_item, next_refused, next_item_refused, none_more}
 use Rattle.cborn_wire.proofs.head_readers.HeadReader.read.Goals as goal
 use Rattle.cborn_wire.proofs.head_readers.HeadReader.read.Goals.{in-Item, in_default, else-matches-via-then-matches+else-is_whole, else-matches-via-else-matches}

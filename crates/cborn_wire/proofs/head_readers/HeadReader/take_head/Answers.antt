@@ -1,6 +1,4 @@
-use Rattle.std.proofs.lemmas.Grind.{common_steps}
-use Rattle.std.proofs.lemmas.Bool.Decides.{nat_tests}
-use Rattle.cborn_wire.proofs.Common.{sym, ◌∙◌, err_from_is_err_and, no_part, ready, open_in, state, arith}
+use Rattle.cborn_wire.proofs.Common.{sym, ◌∙◌, err_from_is_err_and, no_part, ready, open_in, state, arith, common_steps, nat_tests}
 use Rattle.cborn_wire.proofs.HeadReading.HeadSteps.{second_refused, head_taken}
 use Rattle.cborn_wire.proofs.Machine.WholeFront.{one_more_head}
 use Rattle.cborn_wire.proofs.Visiting.Taking.{fails_on, short_taken, stands_here, first_next, short_next}
