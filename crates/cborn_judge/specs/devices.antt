@@ -3,4 +3,5 @@ pub mod Encoding
 pub mod Hints
 pub mod Marks
 pub mod Encoders
+pub mod Rising
 pub mod Following

@@ -1,14 +1,14 @@
 //! The visitor [`Follower`], which sees as heads are read whether bytes are deterministic encodings
 //! (RFC 8949 section 4.2). Nothing is written.
 
-ghost use Rattle.std.specs.Prelude.{◌≡◌, ℕ, List, [], length, take, drop, MatchOption, ⊤, IsTrue};
+ghost use Rattle.std.specs.Prelude.{◌≡◌, ◌<◌, ℕ, List, [], length, take, drop, MatchOption, ⊤, IsTrue};
 ghost use Rattle.cborn_model.specs.Partial.{top, no_part};
 ghost use Rattle.cborn_model.specs.Heads.{head_bytes};
-ghost use Rattle.cborn_judge.specs.devices.Following.{Begins, Began, Entered, StringBegan, IsCounted, IsHeld, IsLeft, IsNextInTag, RisesAbove, fresh, key_before};
+ghost use Rattle.cborn_judge.specs.devices.Following.{Began, Entered, MapEntered, StringBegan, IsBignumTag, IsCounted, IsHeld, IsLeft, PairTaken};
 
+use crate::open_maps::OpenMaps;
 use crate::spellings::is_loose;
 use crate::strings::is_text;
-use arrayvec::ArrayVec;
 use cborn_model::{KeyOrder, LeafPair, Size, StringKind, Visitor, Width, shortest};
 use std::alloc::AllocError;
 use std::marker::{Brand, PhantomData};
@@ -20,82 +20,6 @@ pub trait Input {
 
 impl Input for Brand {
     ghost input = { [] };
-}
-
-/// What comes next in an open container.
-#[derive(Clone, Copy, PartialEq, Eq)]
-pub(crate) enum Next {
-    /// An item of an array, the content of a tag, or an item that is in no other.
-    Item,
-    Key,
-    Value,
-    /// The bytes of a bignum.
-    Magnitude,
-}
-
-/// An open container.
-#[derive(Clone, Copy)]
-pub(crate) struct OpenLevel<'a> {
-    pub(crate) next: Next,
-    /// Where the last key begins, if it is a map.
-    pub(crate) key: usize,
-    /// The last key after which a value began.
-    pub(crate) before: Option<&'a [u8]>,
-}
-
-impl<'a> OpenLevel<'a> {
-    /// A container in which nothing began yet.
-    #[inline(always)]
-    fn new(next: Next) -> OpenLevel<'a>
-        ensures { result ≡ fresh next }
-    {
-        let key = 0;
-        let before = None;
-        OpenLevel { next, key, before }
-    }
-
-    /// Begins an item at the offset `place` of `bytes`, and gives whether it may. So it may not where the
-    /// key that ends there isn't above the one before it, or where the bytes of a bignum were to come.
-    #[inline(always)]
-    fn begin<O: KeyOrder>(&mut self, bytes: &'a [u8], place: usize) -> bool
-        ensures { IsTrue result → Begins O.order bytes.now self.old place self.new }
-    {
-        if self.next == Next::Item {
-            return true;
-        }
-        if self.next == Next::Key {
-            self.key = place;
-            self.next = Next::Value;
-            return true;
-        }
-        if self.next == Next::Magnitude {
-            return false;
-        }
-        let Some(key) = bytes.get(self.key..place) else {
-            return false;
-        };
-        let rises = rises_above::<O>(self.before, key);
-        self.before = Some(key);
-        self.next = Next::Key;
-        rises
-    }
-}
-
-impl<'a> Default for OpenLevel<'a> {
-    fn default() -> OpenLevel<'a> {
-        OpenLevel::new(Next::Item)
-    }
-}
-
-/// Whether a key is above the one before it, or none is before it.
-#[inline(always)]
-fn rises_above<O: KeyOrder>(before: Option<&[u8]>, key: &[u8]) -> bool
-    ensures { IsTrue result → RisesAbove O.order (key_before before.entry) key.now }
-{
-    match before {
-        Some(before) => O::compare(before, key).is_lt(),
-        None => true,
-    }
 }
 
 /// Whether a container has a head with this number, which is the shortest.
@@ -115,26 +39,29 @@ fn is_counted(size: Size, count: Option<u64>) -> bool
 #[derive(Drop)]
 pub struct Follower<'a, O, I, const MOST: usize> {
     pub(crate) bytes: &'a [u8],
-    /// Whether something isn't encoded deterministically, means nothing, or is in more than `MOST` containers.
+    /// Whether something isn't encoded deterministically, means nothing, or is in `MOST` maps or more.
     pub departed: bool,
-    /// The innermost container; the input, if none is open.
-    pub(crate) inner: OpenLevel<'a>,
-    /// Those around it, the outermost first.
-    pub(crate) outer: ArrayVec<OpenLevel<'a>, MOST>,
+    /// Whether the bytes of a bignum come next.
+    pub(crate) magnitude: bool,
+    /// How many arrays and tags are open in the innermost map; one more if no map is open.
+    pub(crate) inside: usize,
+    pub(crate) maps: OpenMaps<MOST>,
     of: PhantomData<(O, I)>,
 }
 
 impl<'a, O: KeyOrder, I: Input, const MOST: usize> Follower<'a, O, I, MOST> {
     /// A follower of these bytes, of which nothing was read. It takes no memory.
     pub fn over(bytes: &'a [u8]) -> Self
-        requires { bytes.now ≡ I.input }
+        requires input { bytes.now ≡ I.input }
+        requires room { 0 < MOST }
         ensures { ⟦<Follower<'a, O, I, MOST> as Visitor>⟧.holds result (top []) no_part }
     {
         Follower {
             bytes,
             departed: false,
-            inner: OpenLevel::new(Next::Item),
-            outer: ArrayVec::new(),
+            magnitude: false,
+            inside: 1,
+            maps: OpenMaps::new(),
             of: PhantomData,
         }
     }
@@ -144,23 +71,38 @@ impl<'a, O: KeyOrder, I: Input, const MOST: usize> Follower<'a, O, I, MOST> {
     fn begin(&mut self, place: u64, sound: bool)
         ensures { Began O.order self.old self.new place sound }
     {
+        if !sound || self.magnitude {
+            self.departed = true;
+        }
         let bytes = self.bytes;
-        let begins = self.inner.begin::<O>(bytes, place as usize);
-        if !begins || !sound {
+        if self.inside == 0 && !self.maps.begin::<O>(bytes, place as usize) {
             self.departed = true;
         }
     }
 
-    /// Begins a container at the offset `place`. It departs unless its head is `sound`.
+    /// Begins an array or a tag at the offset `place`. It departs unless its head is `sound`.
     #[inline(always)]
-    fn enter(&mut self, place: u64, sound: bool, next: Next)
-        ensures { Entered O.order self.old self.new place sound next }
+    fn enter(&mut self, place: u64, sound: bool, magnitude: bool)
+        ensures { Entered O.order self.old self.new place sound magnitude }
     {
         self.begin(place, sound);
-        if self.outer.try_push(self.inner).is_err() {
+        self.magnitude = magnitude;
+        match self.inside.checked_add(1) {
+            Some(inside) => self.inside = inside,
+            None => self.departed = true,
+        }
+    }
+
+    /// Begins a map at the offset `place`. It departs unless its head is `sound`.
+    #[inline(always)]
+    fn enter_map(&mut self, place: u64, sound: bool)
+        ensures { MapEntered O.order self.old self.new place sound }
+    {
+        self.begin(place, sound);
+        if !self.maps.open(self.inside) {
             self.departed = true;
         }
-        self.inner = OpenLevel::new(next);
+        self.inside = 0;
     }
 
     /// Leaves the innermost container.
@@ -168,9 +110,29 @@ impl<'a, O: KeyOrder, I: Input, const MOST: usize> Follower<'a, O, I, MOST> {
     fn leave(&mut self)
         ensures { IsLeft self.old self.new }
     {
-        match self.outer.pop() {
-            Some(around) => self.inner = around,
+        if self.inside > 0 {
+            self.inside -= 1;
+            return;
+        }
+        match self.maps.leave() {
+            Some(inside) => self.inside = inside,
             None => self.departed = true,
+        }
+    }
+
+    /// Takes a key of `key_len` bytes at the offset `place`, and its value.
+    #[inline(always)]
+    fn take_pair(&mut self, place: u64, key_len: usize)
+        ensures { PairTaken O.order self.old self.new place key_len }
+    {
+        let bytes = self.bytes;
+        let start = place as usize;
+        let Some(end) = start.checked_add(key_len) else {
+            self.departed = true;
+            return;
+        };
+        if self.inside > 0 || !self.maps.pair::<O>(bytes, start, end) {
+            self.departed = true;
         }
     }
 
@@ -180,11 +142,11 @@ impl<'a, O: KeyOrder, I: Input, const MOST: usize> Follower<'a, O, I, MOST> {
         ensures { StringBegan O.order self.old self.new place kind width content.now }
     {
         let sound = width == shortest(content.len() as u64);
-        if self.inner.next == Next::Magnitude {
+        if self.magnitude {
+            self.magnitude = false;
             if !sound || kind == StringKind::OfText || is_loose(content) {
                 self.departed = true;
             }
-            self.inner.next = Next::Item;
             return;
         }
         let sound = sound && (kind == StringKind::OfBytes || is_text(content));
@@ -192,15 +154,11 @@ impl<'a, O: KeyOrder, I: Input, const MOST: usize> Follower<'a, O, I, MOST> {
     }
 }
 
-/// What comes next in the tag `n`: of tags 2 and 3 the bytes of a bignum.
-#[inline(always)]
-fn next_in_tag(n: u64) -> Next
-    ensures { IsNextInTag n result }
+/// Whether the tag `n` is that of a bignum (RFC 8949 section 3.4.3).
+fn is_bignum(n: u64) -> bool
+    ensures { IsBignumTag n result }
 {
-    if n == 2 || n == 3 {
-        return Next::Magnitude;
-    }
-    Next::Item
+    n == 2 || n == 3
 }
 
 /// The content of a string of `len` bytes, whose head is at the offset `place` and has `head_len` bytes.
@@ -249,19 +207,19 @@ impl<'a, O: KeyOrder, I: Input, const MOST: usize> Visitor for Follower<'a, O, I
 
     #[inline(always)]
     fn open_array(&mut self, place: u64, size: Size, count: Option<u64>) -> Result<(), AllocError> {
-        self.enter(place, is_counted(size, count), Next::Item);
+        self.enter(place, is_counted(size, count), false);
         Ok(())
     }
 
     #[inline(always)]
     fn open_map(&mut self, place: u64, size: Size, count: Option<u64>) -> Result<(), AllocError> {
-        self.enter(place, is_counted(size, count), Next::Key);
+        self.enter_map(place, is_counted(size, count));
         Ok(())
     }
 
     #[inline(always)]
     fn open_tag(&mut self, place: u64, width: Width, n: u64) -> Result<(), AllocError> {
-        self.enter(place, width == shortest(n), next_in_tag(n));
+        self.enter(place, width == shortest(n), is_bignum(n));
         Ok(())
     }
 
@@ -322,11 +280,11 @@ impl<'a, O: KeyOrder, I: Input, const MOST: usize> Visitor for Follower<'a, O, I
 
     #[inline(always)]
     fn pair(&mut self, place: u64, pair: LeafPair) -> Result<bool, AllocError> {
-        self.begin(place, is_text(pair.key_text));
-        match place.checked_add(pair.key_len as u64) {
-            Some(value) => self.begin(value, is_text(pair.value_text)),
-            None => self.departed = true,
+        if !is_text(pair.key_text) || !is_text(pair.value_text) {
+            self.departed = true;
+            return Ok(true);
         }
+        self.take_pair(place, pair.key_len);
         Ok(true)
     }
 }

@@ -29,6 +29,7 @@ mod judgments;
 pub mod laws;
 mod levels;
 mod marks;
+mod open_maps;
 mod pairs;
 mod spellings;
 mod strings;

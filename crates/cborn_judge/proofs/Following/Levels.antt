@@ -1,11 +1,11 @@
 -- What is known of a partial sequence once one more item begins, is whole, or is opened.
-use Rattle.std.specs.Prelude.{◌≡◌, ◌≢◌, ◌⊎◌, ◌∷◌, ◌++◌}
-use Rattle.cborn_judge.proofs.Common.{ℕ, List, [], map, Option, None, Some, inl, inr, refl, sym, ap, ◌∙◌, subst, arith, append-nil, same_from_push, InArray, AtKey, puts, AllByRecursion, Ordering, Tree, slice_range}
-use Rattle.cborn_model.specs.Partial.{Partial, top, inside, Opening, an_array, a_map, a_tag, in_chunks, put, built, Ends, IsFree, Goes, Proper, TakesItem}
+use Rattle.std.specs.Prelude.{◌≡◌, ◌∷◌, ◌++◌, ⊤}
+use Rattle.cborn_judge.proofs.Common.{ℕ, suc, List, [], map, Bool, true, false, Option, None, Some, inl, inr, refl, sym, ap, ◌∙◌, subst, arith, append-nil, same_from_push, InArray, AtKey, puts, AllByRecursion, Ordering, Tree, Size, slice_range}
+use Rattle.cborn_model.specs.Partial.{Partial, top, inside, Opening, an_array, a_map, a_tag, in_chunks, put, built, Ends, IsFree, Proper}
 use Rattle.cborn_model.specs.Tree.{place}
-use Rattle.cborn_judge.specs.declared.followers.OpenLevel.{OpenLevel}
-use Rattle.cborn_judge.specs.declared.followers.Next.TheVariants as next
-use Rattle.cborn_judge.specs.devices.Following.{key_before, opening_place, IsShort, IsPlace, RisesAbove, BeginsAt, Begins, IsRisingMap, IsLevel, IsOwn, IsTight, IsIn, IsNext, Knows}
+use Rattle.cborn_judge.specs.declared.open_maps.OpenMap.{OpenMap}
+use Rattle.cborn_judge.specs.devices.Rising.{key_before, fresh, RisesAbove, BeginsAt, Begins, TakesPair, IsRisingMap}
+use Rattle.cborn_judge.specs.devices.Following.{opening_place, IsShort, IsPlace, IsDue, BeginsIn, IsOwn, IsTight, IsIn, IsNext, IsLevel, Knows, Leaves}
 
 all_more : (P : Tree → Type 0) (ts : List Tree) (t : Tree) → AllByRecursion P ts → P t → AllByRecursion P (ts ++ t ∷ [])
 all_more P [] t h p = (p, tt)
@@ -23,40 +23,67 @@ built_place (a_map p s c) ts = refl
 built_place (a_tag p w n) ts = refl
 built_place (in_chunks p k) ts = grind arith
 
+two_more : (ts : List Tree) (k v : Tree) (p q : ℕ) → place k ≡ p → place v ≡ q → map place ts ++ p ∷ q ∷ [] ≡ map place ((ts ++ k ∷ []) ++ v ∷ []) ++ []
+two_more [] k v p q e i = ap (λ z. z ∷ q ∷ []) (sym e) ∙ ap (λ z. place k ∷ z ∷ []) (sym i)
+two_more (u ∷ us) k v p q e i = ap (λ l. place u ∷ l) (two_more us k v p q e i)
+
+-- an array or a tag
+abbrev pub IsInner : Opening → Type 0
+IsInner (an_array p s c) = ⊤
+IsInner (a_tag p w n) = ⊤
+IsInner o = ⊥
+
 module _ (order : List ℕ → List ℕ → Ordering) (x : List ℕ) where
-  map_began : (a : OpenLevel) (before : Option (List ℕ)) (ps : List ℕ) (p : ℕ) (b : OpenLevel) → IsRisingMap order x a before ps → Begins order x a p b → IsRisingMap order x b before (ps ++ p ∷ [])
+  map_began : (a : OpenMap) (before : Option (List ℕ)) (ps : List ℕ) (p : ℕ) (b : OpenMap) → IsRisingMap order x a before ps → Begins order x a p b → IsRisingMap order x b before (ps ++ p ∷ [])
   map_began a before [] p b (n, e) h =
       let g = subst (λ z. BeginsAt order x z a p b) n h in
-      (ap (λ f. f.next) g, ap (λ f. f.key) g, ap (λ f. key_before f.before) g ∙ e)
+      (ap (λ f. f.at_value) g, ap (λ f. f.key) g, ap (λ f. key_before x f.before) g ∙ e)
   map_began a before (k ∷ []) p b (n, e, f) h =
       let g = subst (λ z. BeginsAt order x z a p b) n h in
       let rises = subst (λ q. RisesAbove order before (slice_range x q p)) e (subst (λ s. RisesAbove order s (slice_range x a.key p)) f g.0) in
-      (rises, (g.1, g.2 ∙ ap (λ q. Some (slice_range x q p)) e))
+      (rises, (g.2, g.3 ∙ ap (λ q. Some (slice_range x q p)) e))
   map_began a before (k ∷ v ∷ ps) p b (r, h) g = (r, map_began a (Some (slice_range x k v)) ps p b h g)
 
-  map_next : (a : OpenLevel) (before : Option (List ℕ)) (ps : List ℕ) → IsRisingMap order x a before ps → a.next ≡ next.Magnitude → ⊥
-  map_next a before [] h e = let z : next.Key ≡ next.Magnitude = sym h.0 ∙ e in cc
-  map_next a before (k ∷ []) h e = let z : next.Value ≡ next.Magnitude = sym h.0 ∙ e in cc
-  map_next a before (k ∷ v ∷ ps) h e = map_next a (Some (slice_range x k v)) ps h.1 e
+  same_around : (a : OpenMap) (p : ℕ) (b : OpenMap) → Begins order x a p b → b.around ≡ a.around
+  same_around a p b h = around_at a.at_value h where
+    around_at : (v : Bool) → BeginsAt order x v a p b → b.around ≡ a.around
+    around_at false g = ap (λ f. f.around) g
+    around_at true g = g.1
 
-  -- no more than a node is inside the tag of a bignum
-  level_began : (a : OpenLevel) (f : Partial) (o : Opening) (ts : List Tree) (p : ℕ) (b : OpenLevel) → IsLevel order x a o (map place ts ++ []) → Goes o ts → TakesItem (inside f o ts) → Begins order x a p b → IsLevel order x b o (map place ts ++ p ∷ []) × IsPlace (inside f o ts)
-  level_began a f (an_array q s c) ts p b n goes free h = (ap (λ f. f.next) (subst (λ z. BeginsAt order x z a p b) n h) ∙ n, tt)
-  level_began a f (a_map q s c) ts p b m goes free h = (map_began a None (map place ts) p b (subst (IsRisingMap order x a None) (append-nil (map place ts)) m) h, tt)
-  level_began a f (a_tag q w n) [] p b (inl m) goes free h = absurd (subst (λ z. BeginsAt order x z a p b) m.1 h)
-  level_began a f (a_tag q w n) [] p b (inr m) goes free h = (tt, (m.0, m.1))
-  level_began a f (a_tag q w n) (t ∷ ts) p b m goes free h = cc
-  level_began a f (in_chunks q k) ts p b m goes free h = absurd m
+  map_paired : (a : OpenMap) (before : Option (List ℕ)) (ps : List ℕ) (p q : ℕ) (b : OpenMap) → IsRisingMap order x a before ps → TakesPair order x a p q b → IsRisingMap order x b before (ps ++ p ∷ q ∷ [])
+  map_paired a before [] p q b (v, e) (none, key) = (subst (λ s. RisesAbove order s (slice_range x p q)) e key.0, (key.2 ∙ none, key.3))
+  map_paired a before (k ∷ []) p q b (v, e, f) (none, key) = let z : true ≡ false = sym v ∙ none in cc
+  map_paired a before (k ∷ v ∷ ps) p q b (r, h) g = (r, map_paired a (Some (slice_range x k v)) ps p q b h g)
 
-  pub began : (fs : List OpenLevel) (a : OpenLevel) (f : Partial) (p : ℕ) (b : OpenLevel) → Knows order x fs a f [] → IsFree f → Begins order x a p b → Knows order x fs b f (p ∷ []) × IsPlace f
-  began fs a (top ts) p b (none, n, own) free h = ((none, ap (λ f. f.next) (subst (λ z. BeginsAt order x z a p b) n h) ∙ n, own), tt)
-  began fs a (inside f o ts) p b (cs, c, e, short, own, level, at, around) free h =
-      let g = level_began a f o ts p b level free.0.2 free.1 h in
-      ((cs, c, e, short, own, g.0, at, around), g.1)
+  abbrev Around : Partial → Opening → List OpenMap → OpenMap → ℕ → Type 0
+  Around f o fs a n = Knows order x fs a n f (opening_place o ∷ [])
 
-  pub whole : (fs : List OpenLevel) (a : OpenLevel) (f : Partial) (p : ℕ) (t : Tree) → Knows order x fs a f (p ∷ []) → place t ≡ p → IsNext order x f t → Knows order x fs a (put f t) []
-  whole fs a (top ts) p t (none, n, own) e h = (none, n, all_more (IsOwn order x) ts t own h)
-  whole fs a (inside f o ts) p t (cs, c, i, short, own, level, at, around) e h = (cs, c, i, short, all_more (IsIn order x o) ts t own h, subst (IsLevel order x a o) (places_more ts t p e) level, at, around)
+  -- no bytes of a bignum come next
+  at_place : (f : Partial) → IsFree f → IsDue false f → IsPlace f
+  at_place (top ts) free due = tt
+  at_place (inside f (an_array q s c) ts) free due = tt
+  at_place (inside f (a_map q s c) ts) free due = tt
+  at_place (inside f (a_tag q w n) []) free (inl m) = let z : false ≡ true = m.1 in cc
+  at_place (inside f (a_tag q w n) []) free (inr m) = (m.0, m.1)
+  at_place (inside f (a_tag q w n) (t ∷ ts)) free due = let z : t ∷ ts ≡ [] = free.0.2 in cc
+  at_place (inside f (in_chunks q k) ts) free due = tt
+
+  level_began : (fs : List OpenMap) (a : OpenMap) (n : ℕ) (o : Opening) (ts : List Tree) (p : ℕ) (b : OpenMap) (K : List OpenMap → OpenMap → ℕ → Type 0)
+      → IsLevel order x fs a n o (map place ts ++ []) K → BeginsIn order x n a p b → IsLevel order x fs b n o (map place ts ++ p ∷ []) K
+  level_began fs a n (an_array q s c) ts p b K (m, e, around) h = (m, e, subst (λ z. K fs z m) (sym (subst (λ k. BeginsIn order x k a p b) e h)) around)
+  level_began fs a n (a_tag q w t) ts p b K (m, e, around) h = (m, e, subst (λ z. K fs z m) (sym (subst (λ k. BeginsIn order x k a p b) e h)) around)
+  level_began fs a n (a_map q s c) ts p b K (e, rising, (cs, d, is, around)) h =
+      let g = subst (λ k. BeginsIn order x k a p b) e h in
+      (e, map_began a None (map place ts) p b (subst (IsRisingMap order x a None) (append-nil (map place ts)) rising) g, (cs, d, is, subst (K cs d) (sym (same_around a p b g)) around))
+  level_began fs a n (in_chunks q k) ts p b K level h = absurd level
+
+  pub began : (fs : List OpenMap) (a : OpenMap) (n : ℕ) (f : Partial) (p : ℕ) (b : OpenMap) → Knows order x fs a n f [] → IsDue false f → IsFree f → BeginsIn order x n a p b → Knows order x fs b n f (p ∷ []) × IsPlace f
+  began fs a n (top ts) p b known due free h = (known, tt)
+  began fs a n (inside f o ts) p b (short, own, at, level) due free h = ((short, own, at, level_began fs a n o ts p b (Around f o) level h), at_place (inside f o ts) free due)
+
+  pub whole : (fs : List OpenMap) (a : OpenMap) (n : ℕ) (f : Partial) (p : ℕ) (t : Tree) → Knows order x fs a n f (p ∷ []) → place t ≡ p → IsNext order x f t → Knows order x fs a n (put f t) []
+  whole fs a n (top ts) p t (one, own) e h = (one, all_more (IsOwn order x) ts t own h)
+  whole fs a n (inside f o ts) p t (short, own, at, level) e h = (short, all_more (IsIn order x o) ts t own h, at, subst (λ ps. IsLevel order x fs a n o ps (Around f o)) (places_more ts t p e) level)
 
   pub own_next : (f : Partial) (t : Tree) → IsPlace f → IsOwn order x t → IsNext order x f t
   own_next (top ts) t at h = h
@@ -65,47 +92,78 @@ module _ (order : List ℕ → List ℕ → Ordering) (x : List ℕ) where
   own_next (inside f (a_tag p w n) ts) t at h = (h, λ tag. absurd (elim tag [ inl e ↦ at.0 e | inr e ↦ at.1 e ]))
   own_next (inside f (in_chunks p k) ts) t at h = h
 
-  -- a node without children
-  pub leaf : (fs : List OpenLevel) (a : OpenLevel) (f : Partial) (p : ℕ) (b : OpenLevel) (t : Tree) → Knows order x fs a f [] → IsFree f → Begins order x a p b → place t ≡ p → IsOwn order x t → Knows order x fs b (put f t) []
-  leaf fs a f p b t k free h e own = let g = began fs a f p b k free h in whole fs b f p t g.0 e (own_next f t g.1 own)
+  -- once something is in a container, no bytes of a bignum are to come
+  pub due_after : (f : Partial) (t : Tree) (m : Bool) → m ≡ false → IsDue m (put f t)
+  due_after (top ts) t m e = e
+  due_after (inside f (an_array p s c) ts) t m e = e
+  due_after (inside f (a_map p s c) ts) t m e = e
+  due_after (inside f (a_tag p w n) []) t m e = e
+  due_after (inside f (a_tag p w n) (u ∷ us)) t m e = e
+  due_after (inside f (in_chunks p k) ts) t m e = e
 
-  pub opened : (fs : List OpenLevel) (a : OpenLevel) (f : Partial) (p : ℕ) (b c : OpenLevel) (o : Opening) → Knows order x fs a f [] → IsFree f → Begins order x a p b → opening_place o ≡ p → IsShort o → IsLevel order x c o [] → Knows order x (fs ++ b ∷ []) c (inside f o []) []
-  opened fs a f p b c o k free h e short level = let g = began fs a f p b k free h in (fs, b, refl, short, tt, level, g.1, subst (λ q. Knows order x fs b f (q ∷ [])) (sym e) g.0)
+  -- nor once it has ended
+  pub due_ended : (f : Partial) (o : Opening) (ts : List Tree) (m : Bool) → Ends o ts → IsDue m (inside f o ts) → m ≡ false
+  due_ended f (an_array p s c) ts m ends due = due
+  due_ended f (a_map p s c) ts m ends due = due
+  due_ended f (a_tag p w n) [] m (t, e) due = let z : [] ≡ t ∷ [] = e in cc
+  due_ended f (a_tag p w n) (t ∷ ts) m ends due = due
+  due_ended f (in_chunks p k) ts m ends due = due
+
+  pub opened : (fs : List OpenMap) (a : OpenMap) (n : ℕ) (f : Partial) (p : ℕ) (o : Opening) → Knows order x fs a n f (p ∷ []) → IsPlace f → opening_place o ≡ p → IsShort o → IsInner o → Knows order x fs a (suc n) (inside f o []) []
+  opened fs a n f p (an_array q s c) k at e short i = (short, tt, at, (n, refl, subst (λ q. Knows order x fs a n f (q ∷ [])) (sym e) k))
+  opened fs a n f p (a_tag q w t) k at e short i = (short, tt, at, (n, refl, subst (λ q. Knows order x fs a n f (q ∷ [])) (sym e) k))
+  opened fs a n f p (a_map q s c) k at e short i = absurd i
+  opened fs a n f p (in_chunks q s) k at e short i = absurd i
+
+  pub map_opened : (fs : List OpenMap) (a : OpenMap) (n : ℕ) (f : Partial) (p : ℕ) (s : Size) (c : Option ℕ) → Knows order x fs a n f (p ∷ []) → IsPlace f → IsShort (a_map p s c) → Knows order x (fs ++ a ∷ []) (fresh n) 0 (inside f (a_map p s c) []) []
+  map_opened fs a n f p s c k at short = (short, tt, at, (refl, (refl, refl), (fs, a, refl, k)))
 
   -- a string may be next where an item may, since nothing is known inside one of indefinite length
-  pub free_of : (fs : List OpenLevel) (a : OpenLevel) (f : Partial) (ps : List ℕ) → Knows order x fs a f ps → Proper f → IsFree f
-  free_of fs a (top ts) ps k proper = (proper, tt)
-  free_of fs a (inside f (an_array p s c) ts) ps k proper = (proper, tt)
-  free_of fs a (inside f (a_map p s c) ts) ps k proper = (proper, tt)
-  free_of fs a (inside f (a_tag p w n) ts) ps k proper = (proper, tt)
-  free_of fs a (inside f (in_chunks p s) ts) ps k proper = absurd k.5
+  pub free_of : (fs : List OpenMap) (a : OpenMap) (n : ℕ) (f : Partial) (ps : List ℕ) → Knows order x fs a n f ps → Proper f → IsFree f
+  free_of fs a n (top ts) ps k proper = (proper, tt)
+  free_of fs a n (inside f (an_array p s c) ts) ps k proper = (proper, tt)
+  free_of fs a n (inside f (a_map p s c) ts) ps k proper = (proper, tt)
+  free_of fs a n (inside f (a_tag p w t) ts) ps k proper = (proper, tt)
+  free_of fs a n (inside f (in_chunks p s) ts) ps k proper = absurd k.0
 
   -- the bytes of a bignum come next
-  pub magnitude : (fs : List OpenLevel) (a : OpenLevel) (f : Partial) (p : ℕ) (b : OpenLevel) → Knows order x fs a f [] → IsFree f → a.next ≡ next.Magnitude → Knows order x fs b f (p ∷ []) × ((t : Tree) → IsOwn order x t → IsTight order x t → IsNext order x f t)
-  magnitude fs a (top ts) p b k free e = let z : next.Item ≡ next.Magnitude = sym k.1 ∙ e in cc
-  magnitude fs a (inside f (an_array q s c) ts) p b k free e = let z : next.Item ≡ next.Magnitude = sym k.5 ∙ e in cc
-  magnitude fs a (inside f (a_map q s c) ts) p b k free e = absurd (map_next a None (map place ts ++ []) k.5 e)
-  magnitude fs a (inside f (a_tag q w n) []) p b (cs, c, i, short, own, level, at, around) free e = ((cs, c, i, short, own, tt, at, around), λ t h tight. (h, λ tag. tight))
-  magnitude fs a (inside f (a_tag q w n) (t ∷ ts)) p b k free e = let z : t ∷ ts ≡ [] = free.0.2 in cc
-  magnitude fs a (inside f (in_chunks q s) ts) p b k free e = absurd k.5
+  pub magnitude : (fs : List OpenMap) (a : OpenMap) (n : ℕ) (f : Partial) (p : ℕ) → Knows order x fs a n f [] → IsFree f → IsDue true f → Knows order x fs a n f (p ∷ []) × ((t : Tree) → IsOwn order x t → IsTight order x t → IsNext order x f t)
+  magnitude fs a n (top ts) p k free due = cc
+  magnitude fs a n (inside f (an_array q s c) ts) p k free due = cc
+  magnitude fs a n (inside f (a_map q s c) ts) p k free due = cc
+  magnitude fs a n (inside f (a_tag q w t) []) p (short, own, at, level) free due = ((short, own, at, level), λ t h tight. (h, λ tag. tight))
+  magnitude fs a n (inside f (a_tag q w t) (u ∷ us)) p k free due = let z : u ∷ us ≡ [] = free.0.2 in cc
+  magnitude fs a n (inside f (in_chunks q s) ts) p k free due = absurd k.0
 
-  pub closed : (fs gs : List OpenLevel) (a g : OpenLevel) (f : Partial) (o : Opening) (ts : List Tree) → Knows order x fs a (inside f o ts) [] → fs ≡ gs ++ g ∷ [] → IsOwn order x (built o ts) → Knows order x gs g (put f (built o ts)) []
-  closed fs gs a g f o ts (cs, c, e, short, own, level, at, around) is h =
-      let same = same_from_push gs cs g c (sym is ∙ e) in
-      whole gs g f (opening_place o) (built o ts) (subst (λ z. Knows order x z g f (opening_place o ∷ [])) (sym same.0) (subst (λ z. Knows order x cs z f (opening_place o ∷ [])) (sym same.1) around)) (built_place o ts) (own_next f (built o ts) at h)
+  -- what is around a container of which nothing is open inside it
+  pub left : (fs : List OpenMap) (a : OpenMap) (n : ℕ) (o : Opening) (ps : List ℕ) (K : List OpenMap → OpenMap → ℕ → Type 0) (gs : List OpenMap) (g : OpenMap) (m : ℕ) → IsLevel order x fs a n o ps K → Leaves fs a n gs g m → K gs g m
+  left fs a n (an_array p s c) ps K gs g m (l, e, around) h =
+      let (i, j, k) = subst (λ z. Leaves fs a z gs g m) e h in
+      subst (K gs g) (sym i) (subst (λ z. K gs z l) (sym k) (subst (λ z. K z a l) (sym j) around))
+  left fs a n (a_tag p w t) ps K gs g m (l, e, around) h =
+      let (i, j, k) = subst (λ z. Leaves fs a z gs g m) e h in
+      subst (K gs g) (sym i) (subst (λ z. K gs z l) (sym k) (subst (λ z. K z a l) (sym j) around))
+  left fs a n (a_map p s c) ps K gs g m (e, rising, (bs, b, is, around)) h =
+      let (i, j) = subst (λ z. Leaves fs a z gs g m) e h in
+      let same = same_from_push gs bs g b (sym j ∙ is) in
+      subst (K gs g) (sym i) (subst (λ z. K gs z a.around) (sym same.1) (subst (λ z. K z b a.around) (sym same.0) around))
+  left fs a n (in_chunks p k) ps K gs g m level h = absurd level
+
+  pub closed : (fs : List OpenMap) (a : OpenMap) (n : ℕ) (gs : List OpenMap) (g : OpenMap) (m : ℕ) (f : Partial) (o : Opening) (ts : List Tree) → Knows order x fs a n (inside f o ts) [] → Leaves fs a n gs g m → IsOwn order x (built o ts) → Knows order x gs g m (put f (built o ts)) []
+  closed fs a n gs g m f o ts (short, own, at, level) l h =
+      whole gs g m f (opening_place o) (built o ts) (left fs a n o (map place ts ++ []) (Around f o) gs g m level l) (built_place o ts) (own_next f (built o ts) at h)
 
   -- a key and its value
-  pub paired_leaves : (fs : List OpenLevel) (a b c : OpenLevel) (f : Partial) (p q : ℕ) (k v : Tree) → AtKey f → Knows order x fs a f [] → Begins order x a p b → Begins order x b q c → place k ≡ p → place v ≡ q → IsOwn order x k → IsOwn order x v → Knows order x fs c (put (put f k) v) []
-  paired_leaves fs a b c (inside f (a_map r s n) ts) p q k v at (cs, d, i, short, own, level, free, around) h g ek ev ok ov =
+  pub paired_leaves : (fs : List OpenMap) (a b : OpenMap) (n : ℕ) (f : Partial) (p q : ℕ) (k v : Tree) → AtKey f → Knows order x fs a n f [] → TakesPair order x a p q b → place k ≡ p → place v ≡ q → IsOwn order x k → IsOwn order x v → Knows order x fs b n (put (put f k) v) []
+  paired_leaves fs a b n (inside f (a_map r s c) ts) p q k v at (short, own, free, (e, rising, (cs, d, is, around))) h ek ev ok ov =
       let us : List Tree = ts ++ k ∷ [] in
-      let first = subst (IsRisingMap order x b None) (places_more ts k p ek) (map_began a None (map place ts) p b (subst (IsRisingMap order x a None) (append-nil (map place ts)) level) h) in
-      let second = subst (IsRisingMap order x c None) (places_more us v q ev) (map_began b None (map place us) q c (subst (IsRisingMap order x b None) (append-nil (map place us)) first) g) in
-      (cs, d, i, short, all_more (IsOwn order x) us v (all_more (IsOwn order x) ts k own ok) ov, second, free, around)
-  paired_leaves fs a b c f p q k v at known h g ek ev ok ov = absurd at
+      let pairs = map_paired a None (map place ts) p q b (subst (IsRisingMap order x a None) (append-nil (map place ts)) rising) h in
+      (short, all_more (IsOwn order x) us v (all_more (IsOwn order x) ts k own ok) ov, free, (e, subst (IsRisingMap order x b None) (two_more ts k v p q ek ev) pairs, (cs, d, is, subst (λ m. Knows order x cs d m f (r ∷ [])) (sym h.1.1) around)))
+  paired_leaves fs a b n f p q k v at known h ek ev ok ov = absurd at
 
   -- several items of an array
-  pub array_leaves : (fs : List OpenLevel) (a : OpenLevel) (f : Partial) (ts : List Tree) → InArray f → Knows order x fs a f [] → AllByRecursion (IsOwn order x) ts → Knows order x fs a (puts f ts) []
-  array_leaves fs a f [] at known own = known
-  array_leaves fs a (inside f (an_array r s n) us) (t ∷ ts) at (cs, d, i, short, all, level, free, around) own =
-      array_leaves fs a (inside f (an_array r s n) (us ++ t ∷ [])) ts tt (cs, d, i, short, all_more (IsOwn order x) us t all own.0, level, free, around) own.1
-  array_leaves fs a f (t ∷ ts) at known own = absurd at
+  pub array_leaves : (fs : List OpenMap) (a : OpenMap) (n : ℕ) (f : Partial) (ts : List Tree) → InArray f → Knows order x fs a n f [] → AllByRecursion (IsOwn order x) ts → Knows order x fs a n (puts f ts) []
+  array_leaves fs a n f [] at known own = known
+  array_leaves fs a n (inside f (an_array r s c) us) (t ∷ ts) at (short, all, free, level) own =
+      array_leaves fs a n (inside f (an_array r s c) (us ++ t ∷ [])) ts tt (short, all_more (IsOwn order x) us t all own.0, free, level) own.1
+  array_leaves fs a n f (t ∷ ts) at known own = absurd at

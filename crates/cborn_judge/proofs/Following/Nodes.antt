@@ -1,6 +1,6 @@
 -- Nodes that are their own encodings where they stand in the input: those without children, and containers of such.
-use Rattle.std.specs.Prelude.{◌≡◌, ◌≢◌, ◌⊎◌, ◌+◌, ◌^◌, ◌<◌, ◌∷◌, ◌++◌}
-use Rattle.cborn_judge.proofs.Common.{ℕ, List, [], map, length, Bool, true, false, Option, None, Some, inl, inr, refl, sym, ap, ◌∙◌, subst, arith, append-nil, append_assoc, length-append, drop_at, take_at, AllByRecursion, AllZip, IsPermutation-refl, Ordering, IsUtf8, IsUtf8-nil, slice_range, AreBytes, bytes-left, bytes-right, Size, Width, WidthFits, least, head, Given, IsLeastHead, Major, ByteString, TextString, Array, Map, Tag, Fixed, StringKind, OfBytes, OfText, Tree, Items, Pairs, Tagged, Bytes, Simple, trees, entries, place, spelled, spelled_all, spelled_entries, Fits, Placed, PlacedAll, PlacedEntries, Opening, a_map, a_tag, an_array, in_chunks, Ends, built, paired, ended_size, integer_tree, string_tree, text_in, EntriesMean, Couples, no_pairs, pair, IsByteString, IsLoose, IsKeyOrder, Rising, Row, row_entries, joined, keys, IsEncodedAs, AreEncodedAs, IsContent, IsShortLeaf, AreShortIntegers, count, count_entries, Entries, IsAll, filled_keys, IsProper, IsNumber, big_endian, Det, DuplicateKey, cases_eq, tagged, count-trees, count_entries-entries, holds_below, HasRepeat, integer, bytes, bignum_tag, IsInteger}
+use Rattle.std.specs.Prelude.{◌≡◌, ◌≢◌, ◌⊎◌, ◌+◌, ◌∷◌, ◌++◌}
+use Rattle.cborn_judge.proofs.Common.{ℕ, List, [], map, length, Bool, true, false, Option, None, Some, inl, inr, refl, sym, ap, ◌∙◌, subst, arith, append-nil, append_assoc, length-append, drop_at, take_at, AllByRecursion, AllZip, IsPermutation-refl, Ordering, IsUtf8, IsUtf8-nil, slice_range, AreBytes, bytes-left, bytes-right, Size, Width, WidthFits, least, head, Given, IsLeastHead, Major, ByteString, TextString, Array, Map, Tag, Fixed, StringKind, OfBytes, OfText, Tree, Items, Pairs, Tagged, Simple, trees, entries, place, spelled, spelled_all, spelled_entries, Fits, Placed, PlacedAll, PlacedEntries, Opening, a_map, a_tag, an_array, in_chunks, Ends, built, paired, ended_size, integer_tree, string_tree, text_in, EntriesMean, Couples, no_pairs, pair, IsKeyOrder, Rising, Row, row_entries, joined, keys, IsEncodedAs, AreEncodedAs, IsContent, IsShortLeaf, AreShortIntegers, count, count_entries, Entries, IsAll, filled_keys, IsProper, IsNumber, big_endian, Det, DuplicateKey, cases_eq, tagged, count-trees, count_entries-entries, holds_below, integer, bytes, bignum_tag, IsInteger}
 use Rattle.cborn_model.specs.Partial.{last_key}
 use Rattle.cborn_model.specs.Heads.{is_simple_value}
 use Rattle.std.specs.Prelude.{IsTrue}
@@ -11,8 +11,9 @@ use Rattle.cborn_judge.proofs.Encoding.Leaves.{integer_text, short_leaf}
 use Rattle.cborn_judge.proofs.Encoding.MapsRows.{IsRow, keys-filled, written, map_encoded, repeats, rising_new}
 use Rattle.cborn_judge.proofs.Meaning.Placing.{placed_at}
 use Rattle.cborn_judge.proofs.Meaning.Meanings.{means_once, string_means}
-use Rattle.cborn_judge.specs.declared.followers.OpenLevel.{OpenLevel}
-use Rattle.cborn_judge.specs.devices.Following.{RisesAbove, IsShort, IsRisingMap, IsLevel, StandsAt, IsOwn, IsTight, IsIn}
+use Rattle.cborn_judge.specs.declared.open_maps.OpenMap.{OpenMap}
+use Rattle.cborn_judge.specs.devices.Rising.{RisesAbove, IsRisingMap}
+use Rattle.cborn_judge.specs.devices.Following.{IsShort, IsLevel, StandsAt, IsOwn, IsTight, IsIn}
 
 -- ---- lists one after another
 
@@ -98,7 +99,7 @@ module _ (order : List ℕ → List ℕ → Ordering) (x : List ℕ) where
     rising : AllAbove before (keys (row_entries rows))
     whole : spelled_entries (entries (paired ts)) ≡ joined (row_entries rows)
 
-  pairs_own : AreBytes x → (a : OpenLevel) (before : Option (List ℕ)) (ts : List Tree) (front rest : List ℕ) → AllByRecursion (IsOwn order x) ts → last_key ts ≡ None → IsRisingMap order x a before (map place ts) → x ≡ (front ++ spelled_entries (entries (paired ts))) ++ rest → PlacedEntries (length front) (entries (paired ts))
+  pairs_own : AreBytes x → (a : OpenMap) (before : Option (List ℕ)) (ts : List Tree) (front rest : List ℕ) → AllByRecursion (IsOwn order x) ts → last_key ts ≡ None → IsRisingMap order x a before (map place ts) → x ≡ (front ++ spelled_entries (entries (paired ts))) ++ rest → PlacedEntries (length front) (entries (paired ts))
       → AreRising ts before
   pairs_own all a before [] front rest own none m e placed = record { rows = []; values = no_pairs; here = tt; mean = tt; rising = none_above before; whole = refl }
   pairs_own all a before (k ∷ []) front rest own none m e placed = cc
@@ -123,7 +124,7 @@ module _ (order : List ℕ → List ℕ → Ordering) (x : List ℕ) where
         whole = ap (λ z. (b ++ c) ++ z) after.whole;
       }
 
-  map_own : IsKeyOrder order → (a : OpenLevel) (p n : ℕ) (ts : List Tree) → length (paired ts) ≡ n → last_key ts ≡ None → WidthFits (least n) n → AllByRecursion (IsOwn order x) ts → IsRisingMap order x a None (map place ts) → IsOwn order x (Pairs p (Fixed (least n)) (entries (paired ts)))
+  map_own : IsKeyOrder order → (a : OpenMap) (p n : ℕ) (ts : List Tree) → length (paired ts) ≡ n → last_key ts ≡ None → WidthFits (least n) n → AllByRecursion (IsOwn order x) ts → IsRisingMap order x a None (map place ts) → IsOwn order x (Pairs p (Fixed (least n)) (entries (paired ts)))
   map_own laws a p n ts many none fits own m s =
       let es : Entries = entries (paired ts) in
       let h : List ℕ = head Map (Given (least n) (count_entries es)) in
@@ -168,14 +169,14 @@ module _ (order : List ℕ → List ℕ → Ordering) (x : List ℕ) where
 
   -- ---- containers
 
-  pub built_own : IsKeyOrder order → (a : OpenLevel) (o : Opening) (ts : List Tree) → Ends o ts → IsShort o → AllByRecursion (IsIn order x o) ts → IsLevel order x a o (map place ts ++ []) → IsOwn order x (built o ts)
-  built_own laws a (an_array p s c) ts ends (n, size, number, fits) own level =
+  pub built_own : IsKeyOrder order → (fs : List OpenMap) (a : OpenMap) (n : ℕ) (o : Opening) (ts : List Tree) (K : List OpenMap → OpenMap → ℕ → Type 0) → Ends o ts → IsShort o → AllByRecursion (IsIn order x o) ts → IsLevel order x fs a n o (map place ts ++ []) K → IsOwn order x (built o ts)
+  built_own laws fs a m (an_array p s c) ts K ends (n, size, number, fits) own level =
       subst {A = Size × Option ℕ} (λ z. IsOwn order x (Items p (ended_size z.0 z.1 (length ts)) (trees ts))) (λ i. (sym size i, sym number i))
       (array_own p n ts (subst (λ c. IsAll c (length ts)) number ends) fits own)
-  built_own laws a (a_map p s c) ts ends (n, size, number, fits) own level =
+  built_own laws fs a m (a_map p s c) ts K ends (n, size, number, fits) own level =
       subst {A = Size × Option ℕ} (λ z. IsOwn order x (Pairs p (ended_size z.0 z.1 (length (paired ts))) (entries (paired ts)))) (λ i. (sym size i, sym number i))
-      (map_own laws a p n ts (subst (λ c. IsAll c (length (paired ts))) number ends.0) ends.1 fits own (subst (IsRisingMap order x a None) (append-nil (map place ts)) level))
-  built_own laws a (a_tag p w n) ts (t, e) (short, fits) own level =
+      (map_own laws a p n ts (subst (λ c. IsAll c (length (paired ts))) number ends.0) ends.1 fits own (subst (IsRisingMap order x a None) (append-nil (map place ts)) level.1))
+  built_own laws fs a m (a_tag p w n) ts K (t, e) (short, fits) own level =
       let h = subst (AllByRecursion (IsIn order x (a_tag p w n))) e own in
       subst (λ us. IsOwn order x (built (a_tag p w n) us)) (sym e) (subst (λ v. IsOwn order x (Tagged p v n t)) (sym short) (elim (cases_eq n 2) [
         | inl two ↦ bignum_own p n t (inl two) fits h.0.0 (h.0.1 (inl two))
@@ -184,4 +185,4 @@ module _ (order : List ℕ → List ℕ → Ordering) (x : List ℕ) where
           | inr three ↦ tag_own p n t two three fits h.0.0
         ]
       ]))
-  built_own laws a (in_chunks p k) ts ends short own level = absurd short
+  built_own laws fs a m (in_chunks p k) ts K ends short own level = absurd short

@@ -1,9 +1,8 @@
 -- A device of the proofs: what a follower of heads knows of a partial sequence, as long as nothing departed. What it knows of a node is that it is its own encoding, if it stands in the input where its place is. No public contract cites it.
-use Rattle.std.specs.Prelude.{◌≡◌, ◌≢◌, ℕ, ◌≤◌, ◌⊎◌, List, [], ◌∷◌, ◌++◌, length, map, take, slice_range, true, false, Bool, Option, None, Some, IsUtf8, ⊤}
-use Rattle.std.proofs.Common.{Bor}
+use Rattle.std.specs.Prelude.{◌≡◌, ◌≢◌, ℕ, ◌⊎◌, List, [], ◌∷◌, ◌++◌, ◌+◌, length, map, take, slice_index_or, true, false, Bool, Option, None, Some, ⊤}
+use Rattle.std.proofs.Common.{zero, suc}
 use Rattle.std.specs.List.{AllByRecursion}
 use Rattle.std.specs.declared.cmp.Ordering.{Ordering}
-use Rattle.std.specs.declared.cmp.Ordering.TheVariants.{Less}
 use Rattle.cborn_model.specs.Bytes.{AreBytes}
 use Rattle.cborn_model.specs.Heads.{WidthFits, least}
 use Rattle.cborn_model.specs.Meaning.{IsByteString}
@@ -15,22 +14,13 @@ use Rattle.cborn_model.specs.declared.heads.Size.{Size}
 use Rattle.cborn_model.specs.declared.heads.Size.TheVariants.{Fixed}
 use Rattle.cborn_model.specs.declared.heads.Width.{Width}
 use Rattle.cborn_model.specs.declared.visitors.StringKind.{StringKind}
-use Rattle.cborn_model.specs.declared.visitors.StringKind.TheVariants.{OfBytes, OfText}
+use Rattle.cborn_model.specs.declared.visitors.StringKind.TheVariants.{OfBytes}
 use Rattle.cborn_judge.specs.Defects.{IsLoose}
 use Rattle.cborn_judge.specs.devices.Encoders.{IsContent}
 use Rattle.cborn_judge.specs.devices.Encoding.{IsEncodedAs}
 use Rattle.cborn_judge.specs.declared.followers.Follower.{Follower}
-use Rattle.cborn_judge.specs.declared.followers.OpenLevel.{OpenLevel}
-use Rattle.cborn_judge.specs.declared.followers.Next.{Next}
-use Rattle.cborn_judge.specs.declared.followers.Next.TheVariants as next
-
-abbrev pub key_before : Option (Bor (List ℕ)) → Option (List ℕ)
-key_before None = None
-key_before (Some k) = Some k.now
-
--- a container in which nothing began
-abbrev pub fresh : Next → OpenLevel
-fresh n = record { next = n; key = 0; before = None }
+use Rattle.cborn_judge.specs.declared.open_maps.OpenMap.{OpenMap}
+use Rattle.cborn_judge.specs.devices.Rising.{Begins, IsRisingMap, TakesPair, fresh}
 
 -- the head of a container says how many items or pairs there are, and is the shortest
 abbrev pub IsCounted : Size → Option ℕ → Type 0
@@ -50,46 +40,26 @@ IsShort (a_map p s c) = (n : ℕ) × (s ≡ Fixed (least n)) × (c ≡ Some n) �
 IsShort (a_tag p w n) = (w ≡ least n) × WidthFits (least n) n
 IsShort (in_chunks p k) = ⊥
 
--- what comes next in the tag n
-abbrev pub IsNextInTag : ℕ → Next → Type 0
-IsNextInTag n x = (((n ≡ 2) ⊎ (n ≡ 3)) × (x ≡ next.Magnitude)) ⊎ ((n ≢ 2) × (n ≢ 3) × (x ≡ next.Item))
-
 -- the bytes of a bignum don't come next
 abbrev pub IsPlace : Partial → Type 0
 IsPlace (inside f (a_tag p w n) ts) = (n ≢ 2) × (n ≢ 3)
 IsPlace f = ⊤
 
--- the key is above the one before it, if there is one
-abbrev pub RisesAbove : (List ℕ → List ℕ → Ordering) → Option (List ℕ) → List ℕ → Type 0
-RisesAbove order None k = ⊤
-RisesAbove order (Some j) k = order j k ≡ Less
+-- whether the tag n is that of a bignum
+abbrev pub IsBignumTag : ℕ → Bool → Type 0
+IsBignumTag n m = (((n ≡ 2) ⊎ (n ≡ 3)) × (m ≡ true)) ⊎ ((n ≢ 2) × (n ≢ 3) × (m ≡ false))
+
+-- whether the bytes of a bignum come next
+abbrev pub IsDue : Bool → Partial → Type 0
+IsDue m (inside f (a_tag p w n) []) = IsBignumTag n m
+IsDue m f = m ≡ false
+
+-- the innermost container was left, so that these are open after it: maps, the innermost, arrays and tags in that
+abbrev pub Leaves : List OpenMap → OpenMap → ℕ → List OpenMap → OpenMap → ℕ → Type 0
+Leaves fs a zero gs g m = (m ≡ a.around) × (fs ≡ gs ++ g ∷ [])
+Leaves fs a (suc n) gs g m = (m ≡ n) × (gs ≡ fs) × (g ≡ a)
 
 module _ (order : List ℕ → List ℕ → Ordering) (x : List ℕ) where
-  -- ---- one container, by the offsets where its items, or keys and values, begin
-
-  -- what it is once one more begins at p
-  abbrev pub BeginsAt : Next → OpenLevel → ℕ → OpenLevel → Type 0
-  BeginsAt next.Item a p b = b ≡ a
-  BeginsAt next.Key a p b = b ≡ record a { next = next.Value; key = p }
-  BeginsAt next.Value a p b = RisesAbove order (key_before a.before) (slice_range x a.key p) × (b.next ≡ next.Key) × (key_before b.before ≡ Some (slice_range x a.key p))
-  BeginsAt next.Magnitude a p b = ⊥
-
-  abbrev pub Begins : OpenLevel → ℕ → OpenLevel → Type 0
-  Begins a = BeginsAt a.next a
-
-  -- a map whose keys rise, the first above the one before it
-  abbrev pub IsRisingMap : OpenLevel → Option (List ℕ) → List ℕ → Type 0
-  IsRisingMap a before [] = (a.next ≡ next.Key) × (key_before a.before ≡ before)
-  IsRisingMap a before (k ∷ []) = (a.next ≡ next.Value) × (a.key ≡ k) × (key_before a.before ≡ before)
-  IsRisingMap a before (k ∷ v ∷ ps) = RisesAbove order before (slice_range x k v) × IsRisingMap a (Some (slice_range x k v)) ps
-
-  abbrev pub IsLevel : OpenLevel → Opening → List ℕ → Type 0
-  IsLevel a (an_array p s c) ps = a.next ≡ next.Item
-  IsLevel a (a_map p s c) ps = IsRisingMap a None ps
-  IsLevel a (a_tag p w n) [] = IsNextInTag n a.next
-  IsLevel a (a_tag p w n) (q ∷ ps) = ⊤
-  IsLevel a (in_chunks p k) ps = ⊥
-
   -- ---- nodes
 
   -- the node stands in x where its place is
@@ -116,21 +86,35 @@ module _ (order : List ℕ → List ℕ → Ordering) (x : List ℕ) where
   IsNext (top ts) = IsOwn
   IsNext (inside f o ts) = IsIn o
 
-  -- ---- what is open, the outermost first and the innermost apart; and where else an item began in that
+  -- ---- what is open: the maps around the innermost, the outermost first; the innermost; how many arrays and tags are open in it
 
-  abbrev pub Knows : List OpenLevel → OpenLevel → Partial → List ℕ → Type 0
-  Knows fs a (top ts) ps = (fs ≡ []) × (a.next ≡ next.Item) × AllByRecursion IsOwn ts
-  Knows fs a (inside f o ts) ps =
-      (bs : List OpenLevel) × (b : OpenLevel) × (fs ≡ bs ++ b ∷ []) × IsShort o × AllByRecursion (IsIn o) ts × IsLevel a o (map place ts ++ ps)
-      × IsPlace f × Knows bs b f (opening_place o ∷ [])
+  -- an item began at p, a key or a value if it is in no array and no tag
+  abbrev pub BeginsIn : ℕ → OpenMap → ℕ → OpenMap → Type 0
+  BeginsIn zero a p b = Begins order x a p b
+  BeginsIn (suc n) a p b = b ≡ a
 
-  abbrev pub Follows : List OpenLevel → OpenLevel → Partial → Part → Type 0
-  Follows fs a f no_part = Knows fs a f []
-  Follows fs a f (part p k w n y) = Knows fs a f (p ∷ []) × ((b : List ℕ) → length b ≡ n → IsNext f (string_tree p k w b))
+  -- what is known of a container in which items began at ps, where K says what is known around it
+  abbrev pub IsLevel : List OpenMap → OpenMap → ℕ → Opening → List ℕ → (List OpenMap → OpenMap → ℕ → Type 0) → Type 0
+  IsLevel fs a n (an_array p s c) ps K = (m : ℕ) × (n ≡ suc m) × K fs a m
+  IsLevel fs a n (a_tag p w t) ps K = (m : ℕ) × (n ≡ suc m) × K fs a m
+  IsLevel fs a n (a_map p s c) ps K = (n ≡ 0) × IsRisingMap order x a None ps × ((bs : List OpenMap) × (b : OpenMap) × (fs ≡ bs ++ b ∷ []) × K bs b a.around)
+  IsLevel fs a n (in_chunks p k) ps K = ⊥
+
+  -- and an item began at ps in the innermost
+  abbrev pub Knows : List OpenMap → OpenMap → ℕ → Partial → List ℕ → Type 0
+  Knows fs a n (top ts) ps = (n ≡ 1) × AllByRecursion IsOwn ts
+  Knows fs a n (inside f o ts) ps = IsShort o × AllByRecursion (IsIn o) ts × IsPlace f × IsLevel fs a n o (map place ts ++ ps) (λ bs b m. Knows bs b m f (opening_place o ∷ []))
+
+  abbrev pub Follows : List OpenMap → OpenMap → ℕ → Bool → Partial → Part → Type 0
+  Follows fs a n m f no_part = Knows fs a n f [] × IsDue m f
+  Follows fs a n m f (part p k w l y) = Knows fs a n f (p ∷ []) × (m ≡ false) × ((b : List ℕ) → length b ≡ l → IsNext f (string_tree p k w b))
 
 module _ {O I : Type 0} {most : ℕ} where
-  abbrev pub levels : Follower O I most → List OpenLevel
-  levels v = v.outer.items
+  abbrev pub outer : Follower O I most → List OpenMap
+  outer v = take v.maps.around v.maps.maps
+
+  abbrev pub inner : Follower O I most → OpenMap
+  inner v = slice_index_or v.maps.maps v.maps.around (fresh 0)
 
   -- nothing departed before
   abbrev pub IsKept : Follower O I most → Follower O I most → Type 0
@@ -138,22 +122,34 @@ module _ {O I : Type 0} {most : ℕ} where
 
   -- what is known as long as nothing departed
   abbrev pub IsHeld : (List ℕ → List ℕ → Ordering) → List ℕ → Follower O I most → Partial → Part → Type 0
-  IsHeld order x v f c = v.departed ≡ false → (v.bytes.now ≡ x) × Follows order x (levels v) v.inner f c
+  IsHeld order x v f c = v.departed ≡ false → (v.bytes.now ≡ x) × Follows order x (outer v) (inner v) v.inside v.magnitude f c
 
   -- an item began at p that is sound
   abbrev pub Began : (List ℕ → List ℕ → Ordering) → Follower O I most → Follower O I most → ℕ → Bool → Type 0
-  Began order v k p sound = k.departed ≡ false → IsKept v k × (sound ≡ true) × (levels k ≡ levels v) × Begins order v.bytes.now v.inner p k.inner
+  Began order v k p sound =
+      k.departed ≡ false → IsKept v k × (sound ≡ true) × (v.magnitude ≡ false) × (k.magnitude ≡ false) × (k.inside ≡ v.inside) × (outer k ≡ outer v) × BeginsIn order v.bytes.now v.inside (inner v) p (inner k)
 
-  -- and so did a container with a sound head
-  abbrev pub Entered : (List ℕ → List ℕ → Ordering) → Follower O I most → Follower O I most → ℕ → Bool → Next → Type 0
-  Entered order v k p sound n = k.departed ≡ false → IsKept v k × (sound ≡ true) × (k.inner ≡ fresh n) × ((a : OpenLevel) × (levels k ≡ levels v ++ a ∷ []) × Begins order v.bytes.now v.inner p a)
+  -- and so did an array or a tag with a sound head
+  abbrev pub Entered : (List ℕ → List ℕ → Ordering) → Follower O I most → Follower O I most → ℕ → Bool → Bool → Type 0
+  Entered order v k p sound m =
+      k.departed ≡ false → IsKept v k × (sound ≡ true) × (v.magnitude ≡ false) × (k.magnitude ≡ m) × (k.inside ≡ suc v.inside) × (outer k ≡ outer v) × BeginsIn order v.bytes.now v.inside (inner v) p (inner k)
+
+  -- and so did a map
+  abbrev pub MapEntered : (List ℕ → List ℕ → Ordering) → Follower O I most → Follower O I most → ℕ → Bool → Type 0
+  MapEntered order v k p sound =
+      k.departed ≡ false → IsKept v k × (sound ≡ true) × (v.magnitude ≡ false) × (k.magnitude ≡ false) × (k.inside ≡ 0) × (inner k ≡ fresh v.inside)
+      × ((a : OpenMap) × (outer k ≡ outer v ++ a ∷ []) × BeginsIn order v.bytes.now v.inside (inner v) p a)
 
   -- the innermost container was left
   abbrev pub IsLeft : Follower O I most → Follower O I most → Type 0
-  IsLeft v k = k.departed ≡ false → IsKept v k × (levels v ≡ levels k ++ k.inner ∷ [])
+  IsLeft v k = k.departed ≡ false → IsKept v k × (k.magnitude ≡ v.magnitude) × Leaves (outer v) (inner v) v.inside (outer k) (inner k) k.inside
 
   -- a string with the content y, whose head is the shortest, began at p: bytes of a bignum, or another that means something
   abbrev pub StringBegan : (List ℕ → List ℕ → Ordering) → Follower O I most → Follower O I most → ℕ → StringKind → Width → List ℕ → Type 0
   StringBegan order v k p s w y =
-      k.departed ≡ false → IsKept v k × (levels k ≡ levels v) × (w ≡ least (length y))
-      × (((v.inner.next ≡ next.Magnitude) × (s ≡ OfBytes) × (IsLoose y → ⊥)) ⊎ (IsContent s y × Begins order v.bytes.now v.inner p k.inner))
+      k.departed ≡ false → IsKept v k × (k.magnitude ≡ false) × (k.inside ≡ v.inside) × (outer k ≡ outer v) × (w ≡ least (length y))
+      × (((v.magnitude ≡ true) × (s ≡ OfBytes) × (IsLoose y → ⊥) × (inner k ≡ inner v)) ⊎ ((v.magnitude ≡ false) × IsContent s y × BeginsIn order v.bytes.now v.inside (inner v) p (inner k)))
+
+  -- a key of n bytes, which began at p, and its value were taken
+  abbrev pub PairTaken : (List ℕ → List ℕ → Ordering) → Follower O I most → Follower O I most → ℕ → ℕ → Type 0
+  PairTaken order v k p n = k.departed ≡ false → IsKept v k × (k.magnitude ≡ v.magnitude) × (k.inside ≡ v.inside) × (outer k ≡ outer v) × TakesPair order v.bytes.now (inner v) p (p + n) (inner k)

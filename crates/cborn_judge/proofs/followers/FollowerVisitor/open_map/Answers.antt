@@ -1,9 +1,7 @@
-use Rattle.cborn_judge.proofs.Common.{a_map, refl}
-use Rattle.cborn_judge.proofs.Following.Holding.{counted_fits, entered_held}
-use Rattle.cborn_judge.specs.declared.followers.Next.TheVariants.{Key}
+use Rattle.cborn_judge.proofs.Following.Holding.{counted_fits, map_held}
 use Rattle.cborn_judge.proofs.followers.FollowerVisitor.open_map.Goals as goal
 
 pub returns-clause-held : goal.returns-clause-held
 returns-clause-held g c f free h =
     let a = c.args in
-    entered_held g.O.KeyOrder.order g.I.Input.input a.self.now c.enter.new.self f a.place c.is_counted.result Key (a_map a.place a.size a.count) c.enter.ensures h free refl (λ e. counted_fits a.size a.count (c.is_counted.ensures e) c.requires) (refl, refl)
+    map_held g.O.KeyOrder.order g.I.Input.input a.self.now c.enter_map.new.self f a.place c.is_counted.result a.size a.count c.enter_map.ensures h free (λ e. counted_fits a.size a.count (c.is_counted.ensures e) c.requires)
