@@ -1,62 +1,51 @@
-//! The files that the program reads.
+//! The inputs that the program reads.
 ghost use Rattle.std.specs.Prelude.{◌≡◌, ◌≤◌, ◌+◌, None};
 ghost use Rattle.std.specs.Io.{ReadsAtMost};
 ghost use Rattle.std.specs.Io.KnownBytes.{ReadConsumes};
 ghost use Rattle.cborn_engine.specs.Failures.{failures_after};
 
-use cborn_engine::Source;
+use cborn_engine::{Kind, Source};
 use cborn_explain::Look;
 use std::alloc::AllocError;
-use std::io::{ErrorKind, Read};
+use std::io::Read;
 use std::rt::Files;
 use std::{fs, io};
 
-/// A file that is opened at its first read. Where it can't be opened, that read fails, and so does each
-/// later one.
+/// A file that is opened at its first read, which fails where it can't be opened.
 #[derive(Drop)]
 pub struct LateFile<'r, 'p, F: Files> {
-    rt: &'r F,
+    files: &'r F,
     path: &'p str,
     file: Option<F::File>,
-    is_missing: bool,
     failed: u64,
     asked: u64,
 }
 
 impl<'r, 'p, F: Files> LateFile<'r, 'p, F> {
     /// The file at `path`, which isn't opened yet.
-    pub fn new(rt: &'r F, path: &'p str) -> Self {
+    pub fn new(files: &'r F, path: &'p str) -> Self {
         LateFile {
-            rt,
+            files,
             path,
             file: None,
-            is_missing: false,
             failed: 0,
             asked: 0,
         }
     }
 
-    /// Whether its first read found that it can't be opened.
+    /// Whether it isn't open. After a read: whether it can't be opened.
     pub fn is_missing(&self) -> bool {
-        self.is_missing
+        self.file.is_none()
     }
 
     /// The open file, taken out of `self.file`. It is opened if that is empty, so the caller puts it back.
-    ///
-    /// # Errors
-    /// Why it can't be opened, at the first call; `NotFound` at each later one.
     fn opened(&mut self) -> io::Result<F::File>
         ensures { (self.new.failed ≡ self.old.failed) × (self.new.asked ≡ self.old.asked) }
     {
-        if self.is_missing {
-            return Err(io::Error::from(ErrorKind::NotFound));
+        match self.file.take() {
+            Some(file) => Ok(file),
+            None => fs::open(self.files, self.path),
         }
-        if let Some(file) = self.file.take() {
-            return Ok(file);
-        }
-        let opened = fs::open(self.rt, self.path);
-        self.is_missing = opened.is_err();
-        opened
     }
 }
 
@@ -110,7 +99,7 @@ impl<S: Source> Source for Noted<S> {
     {
         let result = self.inner.read_some(buf);
         if let Ok(count) = &result {
-            self.notes.see(&buf[..*count]);
+            self.notes.kept.see(&buf[..*count]);
         }
         result
     }
@@ -120,23 +109,34 @@ impl<S: Source> Source for Noted<S> {
     }
 }
 
-/// What is kept of an input, so that standard error can say more of it.
+/// What is known of an input, so that standard error can say more of it.
 #[derive(Drop)]
-pub enum Notes {
+pub struct Notes {
+    pub side: Side,
+    pub kind: Kind,
+    pub kept: Kept,
+}
+
+/// Which input of a command it is: what a line on it begins with, and the words for it in a sentence.
+pub type Side = (&'static str, &'static str);
+
+/// What is kept of what was read.
+#[derive(Drop)]
+pub enum Kept {
     Nothing,
     /// What its bytes look like.
     Look(Look),
-    /// All bytes that were read of it, or that memory for one of them was refused.
+    /// All its bytes, or that memory for one of them was refused.
     Whole(Result<Vec<u8>, AllocError>),
 }
 
-impl Notes {
+impl Kept {
     fn see(&mut self, bytes: &[u8]) {
         match self {
-            Notes::Look(look) => look.see(bytes),
-            Notes::Whole(Ok(kept)) => {
+            Kept::Look(look) => look.see(bytes),
+            Kept::Whole(Ok(kept)) => {
                 if let Err(refused) = kept.extend_from_slice(bytes) {
-                    *self = Notes::Whole(Err(refused));
+                    *self = Kept::Whole(Err(refused));
                 }
             }
             _ => {}
