@@ -117,8 +117,13 @@ pub struct Notes {
     pub kept: Kept,
 }
 
-/// Which input of a command it is: what a line on it begins with, and the words for it in a sentence.
-pub type Side = (&'static str, &'static str);
+/// Which input of a command it is.
+#[derive(Clone, Copy)]
+pub enum Side {
+    Only,
+    First,
+    Second,
+}
 
 /// What is kept of what was read.
 #[derive(Drop)]

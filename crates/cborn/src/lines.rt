@@ -47,6 +47,9 @@ impl Display for FileName<'_> {
     }
 }
 
+/// The fault of a write or a flush.
+pub const UNWRITTEN: CountFault = CountFault::Engine(EngineFault::WriteFault);
+
 /// Why a task wasn't done.
 #[derive(Clone, Copy)]
 pub enum Trouble<'a> {
@@ -74,22 +77,6 @@ impl<'a> Trouble<'a> {
             Trouble::Engine(fault) => Trouble::OfFile(name, fault),
             _ => self,
         }
-    }
-}
-
-impl From<EngineFault> for Trouble<'_> {
-    ghost from_gives = { λ why gave. gave ≡ trouble.Engine (counted.Engine why) };
-
-    fn from(fault: EngineFault) -> Self {
-        Trouble::Engine(CountFault::Engine(fault))
-    }
-}
-
-impl From<AllocError> for Trouble<'_> {
-    ghost from_gives = { λ _ gave. gave ≡ trouble.Engine (counted.Engine fault.OutOfMemory) };
-
-    fn from(refused: AllocError) -> Self {
-        Trouble::Engine(CountFault::from(refused))
     }
 }
 
@@ -131,10 +118,6 @@ impl Display for Answer {
 
 /// Prints an answer on a line and flushes it. Answers the exit status that goes with it: 0 or 1. After the
 /// name of a file the line is one write, so that the lines of programs side by side don't mix.
-///
-/// # Errors
-/// `OutOfMemory` where memory for a line with a name is refused, and `WriteFault` where the line can't be
-/// written or flushed.
 pub fn tell_answer<'a, W: Write>(
     alloc: Global,
     out: &mut Counted<W>,
@@ -148,36 +131,23 @@ pub fn tell_answer<'a, W: Write>(
     match name {
         None => print(out, &answer, "\n")?,
         Some(text) => {
-            let line = format!(in alloc; "{}: {answer}\n", FileName { text })?;
-            print(out, &line, "")?
+            let line = format!(in alloc; "{}: {answer}\n", FileName { text });
+            print(out, &line.map_err(CountFault::from)?, "")?
         }
     }
-    Ok(status_of_answer(answer))
-}
-
-fn status_of_answer(answer: Answer) -> u8
-    ensures { result ≡ status_of_answer answer }
-{
-    match answer {
+    Ok(match answer {
         Answer::Same | Answer::Deterministic => DONE,
         Answer::DifferentAt(_) | Answer::Defective(_) => DIFFERENT,
-    }
+    })
 }
 
 /// Prints `text` and then `end`, and flushes.
-///
-/// # Errors
-/// `WriteFault` where the write or the flush fails.
-pub fn print<W: Write, T: Display>(
-    out: &mut Counted<W>,
-    text: &T,
-    end: &str,
-) -> Result<(), EngineFault>
+fn print<W: Write, T: Display>(out: &mut Counted<W>, text: &T, end: &str) -> Result<(), CountFault>
     ensures flushed { OnOk result (out.new.unflushed ≡ 0) }
-    ensures fault { IfErr result (λ why. why ≡ fault.WriteFault) }
+    ensures fault { IfErr result (λ why. why ≡ counted.Engine fault.WriteFault) }
 {
     if write!(out, "{text}{end}").is_err() || out.flush().is_err() {
-        return Err(EngineFault::WriteFault);
+        return Err(UNWRITTEN);
     }
     Ok(())
 }
@@ -206,7 +176,7 @@ pub fn print_remarks<E: Write>(err: &mut E, task: &Task<'_>, lines: &str) {
 }
 
 /// Prints lines, if there are any. A write that fails is ignored.
-pub fn print_lines<E: Write>(err: &mut E, lines: &str) {
+fn print_lines<E: Write>(err: &mut E, lines: &str) {
     if !lines.is_empty() {
         let _ = write!(err, "{lines}");
     }
@@ -263,7 +233,7 @@ pub fn tell_usage<W: Write, E: Write>(
 {
     let text = match text_of(alloc, why) {
         Ok(text) => text,
-        Err(refused) => return tell_trouble(err, Trouble::from(refused), ""),
+        Err(refused) => return tell_trouble(err, Trouble::from(CountFault::from(refused)), ""),
     };
     if why.use_stderr() {
         print_lines(err, &text);

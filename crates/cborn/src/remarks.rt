@@ -144,7 +144,7 @@ impl<'a> Remarks<'a> {
             }
             Kept::Whole(Ok(bytes)) if notes.kind == Kind::Wire => {
                 if let Some(hint) = hint_of(bytes) {
-                    let (name, words) = (notes.side.1, hint.words());
+                    let (name, words) = (words_for(notes.side).1, hint.words());
                     self.add(format!(in self.alloc; "  hint  {name} {words}\n"));
                 }
             }
@@ -161,7 +161,10 @@ impl<'a> Remarks<'a> {
                     let name = FileName { text };
                     format!(in self.alloc; "cborn: {name}: hint: {hint}\n")
                 }
-                None => format!(in self.alloc; "cborn: {}hint: {hint}\n", notes.side.0),
+                None => {
+                    let place = words_for(notes.side).0;
+                    format!(in self.alloc; "cborn: {place}hint: {hint}\n")
+                }
             };
             self.add_hint(line);
         }
@@ -181,6 +184,15 @@ impl<'a> Remarks<'a> {
         if !is_added && !self.lines.as_str().ends_with(OUT_OF_MEMORY) {
             let _ = self.lines.push_str(OUT_OF_MEMORY);
         }
+    }
+}
+
+/// The front of a line on an input, and the words for it in a sentence.
+fn words_for(side: Side) -> (&'static str, &'static str) {
+    match side {
+        Side::Only => ("", "the input"),
+        Side::First => ("first: ", "the first input"),
+        Side::Second => ("second: ", "the second input"),
     }
 }
 

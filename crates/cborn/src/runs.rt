@@ -1,19 +1,21 @@
 //! A run of the program: of one command, or of several files that are checked.
 ghost use Rattle.std.specs.Prelude.{◌≡◌, ◌≢◌, ◌≤◌, ◌⊎◌, IfOk, IfErr, OnOk, None};
 ghost use Rattle.cborn_engine.specs.declared.EngineFault.TheVariants as fault;
+ghost use Rattle.cborn_engine.specs.declared.CountFault.TheVariants as counted;
 ghost use Rattle.cborn.specs.Statuses.{status_of_fault, IsRefusal};
 ghost use Rattle.cborn.specs.Words.{IsCheckOfFiles};
 
-use crate::inputs::LateFile;
+use crate::inputs::{LateFile, Side};
 use crate::lines::{
-    Answer, DONE, REFUSED, Trouble, USAGE, print_remarks, tell_answer, tell_trouble, tell_usage,
+    Answer, DONE, REFUSED, Trouble, UNWRITTEN, USAGE, print_remarks, tell_answer, tell_trouble,
+    tell_usage,
 };
 use crate::options::read_request;
 use crate::remarks::Remarks;
 use crate::requests::{Action, Named, Order, Purpose, Request, System, Task};
 use crate::saved::SavedFile;
 use cborn_engine::{
-    CompareCountFault, CountFault, Counted, EngineFault, Source, check_stream, compare_streams,
+    CompareCountFault, CountFault, Counted, Source, check_stream, compare_streams,
     normalise_stream, show_stream,
 };
 use cborn_model::{Bytewise, KeyOrder, LengthFirst};
@@ -117,10 +119,7 @@ fn run_task<F: Files, I: Read + Drop, W: Write, E: Write>(
         Err(trouble) => trouble,
     };
     remarks.on_failure(system.files, task, trouble);
-    let failed = matches!(
-        trouble,
-        Trouble::Engine(CountFault::Engine(EngineFault::WriteFault))
-    );
+    let failed = matches!(trouble, Trouble::Engine(fault) if fault == UNWRITTEN);
     let why = match task.named {
         Some(name) => trouble.of_file(name),
         None => trouble,
@@ -164,15 +163,15 @@ fn perform_to<'a, F: Files, I: Read + Drop, W: Write>(
 fn finish<F: Files, W: Write>(
     file: &mut SavedFile<'_, '_, F>,
     out: &mut Counted<W>,
-) -> Result<(), EngineFault>
+) -> Result<(), CountFault>
     ensures flushed { OnOk result (out.new.unflushed ≡ 0) }
-    ensures fault { IfErr result (λ why. why ≡ fault.WriteFault) }
+    ensures fault { IfErr result (λ why. why ≡ counted.Engine fault.WriteFault) }
 {
     if out.flush().is_err() {
         file.discard();
-        return Err(EngineFault::WriteFault);
+        return Err(UNWRITTEN);
     }
-    file.finish().map_err(|_| EngineFault::WriteFault)
+    file.finish().map_err(|_| UNWRITTEN)
 }
 
 /// Makes a call with the keys of maps in this order.
@@ -226,7 +225,7 @@ fn read_for<'a, O: KeyOrder, I: Read + Drop, W: Write>(
     ensures untouched { IfErr result (λ why. IsRefusal why → out.new ≡ out.old) }
     ensures flushed { OnOk result (out.new.unflushed ≡ 0) }
 {
-    let mut reader = remarks.noted(Counted::new(input), ("", "the input"), purpose.from());
+    let mut reader = remarks.noted(Counted::new(input), Side::Only, purpose.from());
     let answer = match answer_for::<O, _, W>(remarks.alloc, task, purpose, &mut reader, out) {
         Ok(answer) => answer,
         Err(fault) => {
@@ -289,11 +288,9 @@ fn compare_files<'a, O: KeyOrder, F: Files, W: Write>(
     let Ok(file) = fs::open(system.files, first.name) else {
         return Err(Trouble::CannotRead("first: ", first.name));
     };
-    let ours = ("first: ", "the first input");
-    let mut ours = remarks.noted(Counted::new(file), ours, first.kind);
-    let theirs = ("second: ", "the second input");
+    let mut ours = remarks.noted(Counted::new(file), Side::First, first.kind);
     let late = LateFile::new(system.files, second.name);
-    let mut theirs = remarks.noted(late, theirs, second.kind);
+    let mut theirs = remarks.noted(late, Side::Second, second.kind);
     let compared = compare_streams::<O, _, _>(
         system.alloc,
         task.limit,
