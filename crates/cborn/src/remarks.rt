@@ -44,8 +44,8 @@ impl<'a> Remarks<'a> {
         }
     }
 
-    /// A source with notes of what has to be kept of it.
-    pub fn noted<S>(&self, inner: S, side: Side, kind: Kind) -> Noted<S> {
+    /// A reader with notes of what has to be kept of it.
+    pub fn noted<R>(&self, inner: R, side: Side, kind: Kind) -> Noted<R> {
         let kept = if self.explain {
             Kept::Whole(Ok(Vec::new(self.alloc)))
         } else if self.is_person && kind == Kind::Wire {

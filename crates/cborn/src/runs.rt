@@ -225,11 +225,12 @@ fn read_for<'a, O: KeyOrder, I: Read + Drop, W: Write>(
     ensures untouched { IfErr result (λ why. IsRefusal why → out.new ≡ out.old) }
     ensures flushed { OnOk result (out.new.unflushed ≡ 0) }
 {
-    let mut reader = remarks.noted(Counted::new(input), Side::Only, purpose.from());
-    let answer = match answer_for::<O, _, W>(remarks.alloc, task, purpose, &mut reader, out) {
+    let mut noted = remarks.noted(input, Side::Only, purpose.from());
+    let reader = &mut Counted::new(&mut noted);
+    let answer = match answer_for::<O, _, W>(remarks.alloc, task, purpose, reader, out) {
         Ok(answer) => answer,
         Err(fault) => {
-            remarks.on_fault(&reader.notes, fault);
+            remarks.on_fault(&noted.notes, fault);
             return Err(Trouble::Engine(fault));
         }
     };
@@ -237,7 +238,7 @@ fn read_for<'a, O: KeyOrder, I: Read + Drop, W: Write>(
         None => DONE,
         Some(answer) => tell_answer(remarks.alloc, out, task.named, answer)?,
     };
-    remarks.on_answer(&reader.notes, answer);
+    remarks.on_answer(&noted.notes, answer);
     Ok(status)
 }
 
@@ -288,7 +289,7 @@ fn compare_files<'a, O: KeyOrder, F: Files, W: Write>(
     let Ok(file) = fs::open(system.files, first.name) else {
         return Err(Trouble::CannotRead("first: ", first.name));
     };
-    let mut ours = remarks.noted(Counted::new(file), Side::First, first.kind);
+    let mut ours = remarks.noted(file, Side::First, first.kind);
     let late = LateFile::new(system.files, second.name);
     let mut theirs = remarks.noted(late, Side::Second, second.kind);
     let compared = compare_streams::<O, _, _>(
@@ -296,9 +297,9 @@ fn compare_files<'a, O: KeyOrder, F: Files, W: Write>(
         task.limit,
         task.count,
         first.kind,
-        &mut ours,
+        &mut Counted::new(&mut ours),
         second.kind,
-        &mut theirs,
+        &mut Counted::new(&mut theirs),
     );
     let missing = theirs.inner.is_missing().then_some(second.name);
     let reported = tell_comparison(system.alloc, out, compared, missing);
