@@ -17,7 +17,7 @@ use std::alloc::{AllocError, Global};
 pub fn read_request<'a>(alloc: Global, words: &'a [&'a str]) -> Result<Request<'a>, Error>
     ensures several { IfOk result (λ request. 0 < length request.others.items → IsCheckOfFiles words.now) }
 {
-    let mut program = program(alloc)?;
+    let mut program = program(alloc, words)?;
     let why = match program.try_get_matches_from_mut(words) {
         Ok(matches) => match request_of(alloc, words, &matches)? {
             Some(request) => return Ok(request),
@@ -34,7 +34,7 @@ fn advised(alloc: Global, words: &[&str], why: Error) -> Result<Error, AllocErro
     match advice_on(words) {
         Some((form, line)) if why.kind() == ErrorKind::UnknownArgument => {
             let name = format!(in alloc; "cborn {}", form.name)?;
-            let mut command = command(alloc, form)?.bin_name(&name)?;
+            let mut command = command(alloc, form, true)?.bin_name(&name)?;
             command.error(ErrorKind::UnknownArgument, line)
         }
         _ => Ok(why),
@@ -167,7 +167,8 @@ fn kind_of(found: &ArgMatches<'_>, name: &str) -> Kind {
     }
 }
 
-fn program<'a>(alloc: Global) -> Result<Command<'a>, AllocError> {
+/// The program with its commands. Those that the words don't name have no arguments, which saves time.
+fn program<'a>(alloc: Global, words: &[&str]) -> Result<Command<'a>, AllocError> {
     let mut program = Command::new(alloc, "cborn")
         .version("0.6.0-dev")
         .about(ABOUT)
@@ -175,17 +176,20 @@ fn program<'a>(alloc: Global) -> Result<Command<'a>, AllocError> {
         .subcommand_required(true)
         .disable_help_subcommand(true);
     for form in COMMANDS {
-        program = program.subcommand(command(alloc, form)?)?;
+        let is_named = words.iter().any(|word| *word == form.name);
+        program = program.subcommand(command(alloc, form, is_named)?)?;
     }
     Ok(program)
 }
 
-fn command<'a>(alloc: Global, form: &Form) -> Result<Command<'a>, AllocError> {
+fn command<'a>(alloc: Global, form: &Form, has_arguments: bool) -> Result<Command<'a>, AllocError> {
     let mut command = Command::new(alloc, form.name)
         .about(form.about)
         .after_long_help(form.notes);
-    for name in form.arguments.split(' ') {
-        command = command.arg(argument_of(alloc, form.name, name))?;
+    if has_arguments {
+        for name in form.arguments.split(' ') {
+            command = command.arg(argument_of(alloc, form.name, name))?;
+        }
     }
     Ok(command)
 }
