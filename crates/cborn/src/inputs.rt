@@ -1,142 +1,100 @@
-//! The files that the program reads.
-ghost use Rattle.std.specs.Prelude.{◌≡◌, ◌≤◌, ◌+◌, None};
-ghost use Rattle.std.specs.Io.{ReadsAtMost};
-ghost use Rattle.std.specs.Io.KnownBytes.{ReadConsumes};
-ghost use Rattle.cborn_engine.specs.Failures.{failures_after};
+//! The inputs that the program reads.
 
-use cborn_engine::Source;
+use cborn_engine::Kind;
 use cborn_explain::Look;
 use std::alloc::AllocError;
-use std::io::{ErrorKind, Read};
+use std::io::Read;
 use std::rt::Files;
 use std::{fs, io};
 
-/// A file that is opened at its first read. Where it can't be opened, that read fails, and so does each
-/// later one.
+/// A file that is opened at its first read, which fails where it can't be opened.
 #[derive(Drop)]
 pub struct LateFile<'r, 'p, F: Files> {
-    rt: &'r F,
+    files: &'r F,
     path: &'p str,
     file: Option<F::File>,
-    is_missing: bool,
-    failed: u64,
-    asked: u64,
 }
 
 impl<'r, 'p, F: Files> LateFile<'r, 'p, F> {
     /// The file at `path`, which isn't opened yet.
-    pub fn new(rt: &'r F, path: &'p str) -> Self {
+    pub fn new(files: &'r F, path: &'p str) -> Self {
         LateFile {
-            rt,
+            files,
             path,
             file: None,
-            is_missing: false,
-            failed: 0,
-            asked: 0,
         }
     }
 
-    /// Whether its first read found that it can't be opened.
+    /// Whether it isn't open. After a read: whether it can't be opened.
     pub fn is_missing(&self) -> bool {
-        self.is_missing
-    }
-
-    /// The open file, taken out of `self.file`. It is opened if that is empty, so the caller puts it back.
-    ///
-    /// # Errors
-    /// Why it can't be opened, at the first call; `NotFound` at each later one.
-    fn opened(&mut self) -> io::Result<F::File>
-        ensures { (self.new.failed ≡ self.old.failed) × (self.new.asked ≡ self.old.asked) }
-    {
-        if self.is_missing {
-            return Err(io::Error::from(ErrorKind::NotFound));
-        }
-        if let Some(file) = self.file.take() {
-            return Ok(file);
-        }
-        let opened = fs::open(self.rt, self.path);
-        self.is_missing = opened.is_err();
-        opened
+        self.file.is_none()
     }
 }
 
-impl<F: Files> Source for LateFile<'_, '_, F> {
-    ghost remaining = { λ _. None };
-
-    ghost failed = { λ l. l.failed };
-
-    ghost asked = { λ l. l.asked };
-
-    fn read_some(&mut self, buf: &mut [u8]) -> io::Result<usize> {
-        self.asked = self.asked.saturating_add(1);
-        let result = match self.opened() {
-            Ok(mut file) => {
-                let result = file.read(buf);
-                self.file = Some(file);
-                result
-            }
-            Err(why) => Err(why),
+impl<F: Files> Read for LateFile<'_, '_, F> {
+    fn read(&mut self, buf: &mut [u8]) -> io::Result<usize> {
+        let mut file = match self.file.take() {
+            Some(file) => file,
+            None => fs::open(self.files, self.path)?,
         };
-        if result.is_err() {
-            self.failed = self.failed.saturating_add(1);
-        }
+        let result = file.read(buf);
+        self.file = Some(file);
         result
     }
-
-    fn failures(&self) -> u64 {
-        self.failed
-    }
 }
 
-/// A source, with notes of what was read from it.
+/// A reader, with notes of what was read from it.
 #[derive(Drop)]
-pub struct Noted<S> {
-    pub inner: S,
+pub struct Noted<R> {
+    pub inner: R,
     pub notes: Notes,
 }
 
-impl<S: Source> Source for Noted<S> {
-    ghost remaining = { λ n. S.remaining n.inner };
+impl<R: Read> Read for Noted<R> {
+    ghost remaining = { λ n. R.remaining n.inner };
 
-    ghost failed = { λ n. S.failed n.inner };
-
-    ghost asked = { λ n. S.asked n.inner };
-
-    fn read_some(&mut self, buf: &mut [u8]) -> io::Result<usize>
-        ensures bound { ReadsAtMost result buf.new }
-        ensures bytes { ReadConsumes (S.remaining self.old.inner) (S.remaining self.new.inner) result buf.new }
-        ensures failures { S.failed self.new.inner ≡ failures_after result (S.failed self.old.inner) }
-        ensures calls { S.asked self.new.inner ≤ S.asked self.old.inner + 1 }
-    {
-        let result = self.inner.read_some(buf);
+    fn read(&mut self, buf: &mut [u8]) -> io::Result<usize> {
+        let result = self.inner.read(buf);
         if let Ok(count) = &result {
-            self.notes.see(&buf[..*count]);
+            self.notes.kept.see(&buf[..*count]);
         }
         result
     }
-
-    fn failures(&self) -> u64 {
-        self.inner.failures()
-    }
 }
 
-/// What is kept of an input, so that standard error can say more of it.
+/// What is known of an input, so that standard error can say more of it.
 #[derive(Drop)]
-pub enum Notes {
+pub struct Notes {
+    pub side: Side,
+    pub kind: Kind,
+    pub kept: Kept,
+}
+
+/// Which input of a command it is.
+#[derive(Clone, Copy)]
+pub enum Side {
+    Only,
+    First,
+    Second,
+}
+
+/// What is kept of what was read.
+#[derive(Drop)]
+pub enum Kept {
     Nothing,
     /// What its bytes look like.
     Look(Look),
-    /// All bytes that were read of it, or that memory for one of them was refused.
+    /// All its bytes, or that memory for one of them was refused.
     Whole(Result<Vec<u8>, AllocError>),
 }
 
-impl Notes {
+impl Kept {
     fn see(&mut self, bytes: &[u8]) {
         match self {
-            Notes::Look(look) => look.see(bytes),
-            Notes::Whole(Ok(kept)) => {
+            Kept::Look(look) => look.see(bytes),
+            Kept::Whole(Ok(kept)) => {
                 if let Err(refused) = kept.extend_from_slice(bytes) {
-                    *self = Notes::Whole(Err(refused));
+                    *self = Kept::Whole(Err(refused));
                 }
             }
             _ => {}

@@ -1,20 +1,32 @@
-//! The lines that the program prints.
-ghost use Rattle.std.specs.Prelude.{◌≡◌, ◌≤◌, IfOk, IfErr, OnOk};
+//! The lines that the program prints, and its exit statuses.
+ghost use Rattle.std.specs.Prelude.{◌≡◌, ◌≤◌, ◌⊎◌, IfOk, IfErr, OnOk};
 ghost use Rattle.cborn.specs.Statuses.{of_file, status_of_answer, status_of_fault, status_of_trouble};
 ghost use Rattle.cborn_engine.specs.declared.EngineFault.TheVariants as fault;
 ghost use Rattle.cborn_engine.specs.declared.CountFault.TheVariants as counted;
 ghost use Rattle.cborn.specs.declared.lines.Trouble.TheVariants as trouble;
 
 use crate::requests::Task;
-use crate::statuses::{DIFFERENT, DONE, FAILED, REFUSED};
 use cborn_engine::{CompareCountFault, CountFault, Counted, EngineFault};
 use cborn_explain::Escaped;
 use cborn_judge::Defect;
+use clap::Error;
+use clap::error::ErrorKind;
 use itoa::Buffer;
 use std::alloc::{AllocError, Global};
 use std::fmt::{Display, Formatter};
 use std::io::Write;
 use std::{fmt, io};
+
+/// Done, the inputs hold the same items, or the input is deterministic.
+pub const DONE: u8 = 0;
+/// The inputs hold different items, or the input isn't deterministic.
+pub const DIFFERENT: u8 = 1;
+/// An input is refused.
+pub const REFUSED: u8 = 2;
+/// The command line is wrong.
+pub const USAGE: u8 = 3;
+/// A file can't be opened, a read or a write failed, or out of memory.
+pub const FAILED: u8 = 4;
 
 /// The name of a file. It displays with its characters escaped, since it may hold any, and with the
 /// backslash escaped too: a name that has one doesn't look like another whose characters are escaped.
@@ -34,6 +46,9 @@ impl Display for FileName<'_> {
         Ok(())
     }
 }
+
+/// The fault of a write or a flush.
+pub const UNWRITTEN: CountFault = CountFault::Engine(EngineFault::WriteFault);
 
 /// Why a task wasn't done.
 #[derive(Clone, Copy)]
@@ -65,22 +80,6 @@ impl<'a> Trouble<'a> {
     }
 }
 
-impl From<EngineFault> for Trouble<'_> {
-    ghost from_gives = { λ why gave. gave ≡ trouble.Engine (counted.Engine why) };
-
-    fn from(fault: EngineFault) -> Self {
-        Trouble::Engine(CountFault::Engine(fault))
-    }
-}
-
-impl From<AllocError> for Trouble<'_> {
-    ghost from_gives = { λ _ gave. gave ≡ trouble.Engine (counted.Engine fault.OutOfMemory) };
-
-    fn from(refused: AllocError) -> Self {
-        Trouble::Engine(CountFault::from(refused))
-    }
-}
-
 impl From<CountFault> for Trouble<'_> {
     ghost from_gives = { λ why gave. gave ≡ trouble.Engine why };
 
@@ -104,15 +103,12 @@ pub enum Answer {
 
 impl Display for Answer {
     fn fmt<W: fmt::Write>(&self, f: &mut Formatter<W>) -> fmt::Result {
+        let mut digits = Buffer::new();
         match self {
             Answer::Same => write!(f, "same"),
-            Answer::DifferentAt(index) => {
-                let mut digits = Buffer::new();
-                write!(f, "different at item {}", digits.format(*index))
-            }
+            Answer::DifferentAt(index) => write!(f, "different at item {}", digits.format(*index)),
             Answer::Deterministic => write!(f, "deterministic"),
             Answer::Defective(defect) => {
-                let mut digits = Buffer::new();
                 let place = digits.format(defect.place);
                 write!(f, "offset {place}: {}", defect.reason)
             }
@@ -122,10 +118,6 @@ impl Display for Answer {
 
 /// Prints an answer on a line and flushes it. Answers the exit status that goes with it: 0 or 1. After the
 /// name of a file the line is one write, so that the lines of programs side by side don't mix.
-///
-/// # Errors
-/// `OutOfMemory` where memory for a line with a name is refused, and `WriteFault` where the line can't be
-/// written or flushed.
 pub fn tell_answer<'a, W: Write>(
     alloc: Global,
     out: &mut Counted<W>,
@@ -139,36 +131,23 @@ pub fn tell_answer<'a, W: Write>(
     match name {
         None => print(out, &answer, "\n")?,
         Some(text) => {
-            let line = format!(in alloc; "{}: {answer}\n", FileName { text })?;
-            print(out, &line, "")?
+            let line = format!(in alloc; "{}: {answer}\n", FileName { text });
+            print(out, &line.map_err(CountFault::from)?, "")?
         }
     }
-    Ok(status_of_answer(answer))
-}
-
-fn status_of_answer(answer: Answer) -> u8
-    ensures { result ≡ status_of_answer answer }
-{
-    match answer {
+    Ok(match answer {
         Answer::Same | Answer::Deterministic => DONE,
         Answer::DifferentAt(_) | Answer::Defective(_) => DIFFERENT,
-    }
+    })
 }
 
 /// Prints `text` and then `end`, and flushes.
-///
-/// # Errors
-/// `WriteFault` where the write or the flush fails.
-pub fn print<W: Write, T: Display>(
-    out: &mut Counted<W>,
-    text: &T,
-    end: &str,
-) -> Result<(), EngineFault>
+fn print<W: Write, T: Display>(out: &mut Counted<W>, text: &T, end: &str) -> Result<(), CountFault>
     ensures flushed { OnOk result (out.new.unflushed ≡ 0) }
-    ensures fault { IfErr result (λ why. why ≡ fault.WriteFault) }
+    ensures fault { IfErr result (λ why. why ≡ counted.Engine fault.WriteFault) }
 {
     if write!(out, "{text}{end}").is_err() || out.flush().is_err() {
-        return Err(EngineFault::WriteFault);
+        return Err(UNWRITTEN);
     }
     Ok(())
 }
@@ -197,7 +176,7 @@ pub fn print_remarks<E: Write>(err: &mut E, task: &Task<'_>, lines: &str) {
 }
 
 /// Prints lines, if there are any. A write that fails is ignored.
-pub fn print_lines<E: Write>(err: &mut E, lines: &str) {
+fn print_lines<E: Write>(err: &mut E, lines: &str) {
     if !lines.is_empty() {
         let _ = write!(err, "{lines}");
     }
@@ -237,4 +216,62 @@ pub fn status_of_fault(fault: CountFault) -> u8
         CountFault::Engine(EngineFault::OutOfMemory) => FAILED,
         _ => REFUSED,
     }
+}
+
+/// Prints why the command line gives no task: help or the version to `out`, a mistake to `err`. Answers
+/// the exit status.
+pub fn tell_usage<W: Write, E: Write>(
+    alloc: Global,
+    why: &Error,
+    out: &mut Counted<W>,
+    err: &mut E,
+) -> u8
+    ensures status { result ≤ 4 }
+    ensures refused { result ≡ REFUSED → out.new ≡ out.old }
+    ensures usage { result ≡ USAGE → out.new ≡ out.old }
+    ensures flushed { result ≤ 1 → out.new.unflushed ≡ 0 }
+{
+    let text = match text_of(alloc, why) {
+        Ok(text) => text,
+        Err(refused) => return tell_trouble(err, Trouble::from(CountFault::from(refused)), ""),
+    };
+    if why.use_stderr() {
+        print_lines(err, &text);
+        return USAGE;
+    }
+    match print(out, &text, "") {
+        Ok(()) => DONE,
+        Err(failed) => tell_trouble(err, Trouble::from(failed), ""),
+    }
+}
+
+/// Help, the version, or what is wrong with the command line. The lines of a mistake are escaped,
+/// since they may quote an argument, which may hold any character.
+fn text_of(alloc: Global, why: &Error) -> Result<String, AllocError> {
+    if why.kind() == ErrorKind::OutOfMemory {
+        return Err(AllocError);
+    }
+    let text = format!(in alloc; "{why}")?;
+    if !why.use_stderr() {
+        return Ok(text);
+    }
+    let mut lines = String::new(alloc);
+    for line in text.lines() {
+        let line = Escaped { text: line };
+        writeln!(lines, "{line}")?;
+    }
+    Ok(lines)
+}
+
+/// Prints why the words of the command line can't be had. Answers the exit status: 3 where a word isn't
+/// UTF-8, else 4. A write that fails is ignored.
+pub fn tell_words<E: Write>(err: &mut E, why: io::Error) -> u8
+    ensures { (result ≡ USAGE) ⊎ (result ≡ FAILED) }
+{
+    if why.kind() == io::ErrorKind::InvalidData {
+        let _ = writeln!(err, "error: an argument is not UTF-8");
+        return USAGE;
+    }
+    let _ = writeln!(err, "cborn: {why}");
+    FAILED
 }

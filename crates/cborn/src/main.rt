@@ -6,41 +6,31 @@
 //!
 //! - `options`: from the words to a request, by the argument parser `clap`; `requests`: that request, its
 //!   task, and what a run is given.
-//! - `forms`: the commands and their arguments; `help`: the texts of help.
-//! - `misplaced`: what is said of an option that only another command has, or that is meant by another name.
-//! - `runs`: a run, of one task or of several files that are checked; `tasks`: the commands, by the calls of
-//!   `cborn_engine`.
-//! - `inputs`: the files that they read.
-//! - `outputs`: where their answers go; `saved`: the file that one goes to.
-//! - `lines`: the lines that are printed, and the names in them; `usage` those on a wrong command line.
+//! - `forms`: the commands and their arguments, with the texts of help.
+//! - `runs`: a run, of one command or of several files that are checked, by the calls of `cborn_engine`.
+//! - `inputs`: what is read. `saved`: the file that an answer goes to.
+//! - `lines`: the lines that are printed, the names in them, and the exit statuses.
 //! - `remarks`: what else standard error gets: explanations, and hints.
-//! - `statuses`: the exit statuses.
 //!
 //! `specs/Statuses.antt` says which exit status goes with what, `specs/Words.antt` when a request has more
 //! than one file to check.
 #![tactic(auto)]
 
 mod forms;
-mod help;
 mod inputs;
 mod lines;
-mod misplaced;
 mod options;
-mod outputs;
 mod remarks;
 mod requests;
 mod runs;
 mod saved;
-mod statuses;
-mod tasks;
-mod usage;
 
 use cborn_engine::Counted;
+use lines::tell_words;
 pub use runs::run;
 use std::alloc::Global;
 use std::process::ExitCode;
 use std::{env, io};
-use usage::tell_words;
 
 /// Runs the program with what the system gives, and answers its exit status.
 fn run_host(rt: &HostRuntime, alloc: Global) -> io::Result<u8> {

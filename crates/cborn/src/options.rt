@@ -2,14 +2,12 @@
 ghost use Rattle.std.specs.Prelude.{◌≡◌, ◌<◌, ◌≤◌, ◌⊎◌, length, true, IfOk, IfSome};
 ghost use Rattle.cborn.specs.Words.{is_option, plain_count, HasHyphens, IsCheckOfFiles};
 
-use crate::forms::{Argument, COMMANDS, Form, Takes};
-use crate::help;
-use crate::misplaced::{Advice, advice_on};
+use crate::forms::{ABOUT, COMMANDS, Form, NOTES, argument_of};
 use crate::requests::{Action, Named, Order, Purpose, Request, Task};
 use cborn_engine::{Count, Kind};
 use cborn_model::Limit;
 use clap::error::ErrorKind;
-use clap::{Arg, ArgAction, ArgMatches, Command, Error};
+use clap::{ArgMatches, Command, Error};
 use std::alloc::{AllocError, Global};
 
 /// What the words of a command line ask for. The first word is the program's name.
@@ -19,37 +17,28 @@ use std::alloc::{AllocError, Global};
 pub fn read_request<'a>(alloc: Global, words: &'a [&'a str]) -> Result<Request<'a>, Error>
     ensures several { IfOk result (λ request. 0 < length request.others.items → IsCheckOfFiles words.now) }
 {
-    let mut program = program(alloc)?;
-    match program.try_get_matches_from_mut(words) {
+    let mut program = program(alloc, words)?;
+    let why = match program.try_get_matches_from_mut(words) {
         Ok(matches) => match request_of(alloc, words, &matches)? {
-            Some(request) => Ok(request),
-            None => Err(no_command(&mut program)),
+            Some(request) => return Ok(request),
+            None => program.error(ErrorKind::MissingSubcommand, "a command is required"),
         },
-        Err(why) => Err(explained(alloc, words, why)),
-    }
-}
-
-fn no_command(program: &mut Command<'_>) -> Error {
-    let error = program.error(ErrorKind::MissingSubcommand, "a command is required");
-    error.unwrap_or_else(Error::from)
+        Err(why) => advised(alloc, words, why),
+    };
+    Err(why.unwrap_or_else(Error::from))
 }
 
 /// The mistake that `clap` found in the words. Where they have an option that the command lacks, and
-/// there is advice on it, the mistake that gives the advice.
-fn explained(alloc: Global, words: &[&str], why: Error) -> Error {
+/// there is a line on it, that line and the usage of the command.
+fn advised(alloc: Global, words: &[&str], why: Error) -> Result<Error, AllocError> {
     match advice_on(words) {
-        Some(advice) if why.kind() == ErrorKind::UnknownArgument => advised(
-            alloc, &advice,
-        ).unwrap_or_else(Error::from),
-        _ => why,
+        Some((form, line)) if why.kind() == ErrorKind::UnknownArgument => {
+            let name = format!(in alloc; "cborn {}", form.name)?;
+            let mut command = command(alloc, form, true)?.bin_name(&name)?;
+            command.error(ErrorKind::UnknownArgument, line)
+        }
+        _ => Ok(why),
     }
-}
-
-/// The mistake whose text is the line of an advice and the usage of its command.
-fn advised(alloc: Global, advice: &Advice) -> Result<Error, AllocError> {
-    let name = format!(in alloc; "cborn {}", advice.command.name)?;
-    let mut command = command(alloc, advice.command)?.bin_name(&name)?;
-    command.error(ErrorKind::UnknownArgument, advice.line)
 }
 
 /// What was found in the words. `None`: there is no command.
@@ -78,7 +67,10 @@ fn task_of<'a>(name: &str, found: &ArgMatches<'a>) -> Option<Task<'a>> {
         action: action_of(name, found)?,
         named: None,
         output: found.get_str("output"),
-        order: order_of(found),
+        order: match found.get_str("order") {
+            Some("length-first") => Order::LengthFirst,
+            _ => Order::Bytewise,
+        },
         limit: Limit::new(found.get_one::<u64>("depth")?)?,
         count: if found.get_flag("one") {
             Count::One
@@ -166,13 +158,6 @@ fn named_by<'a>(found: &ArgMatches<'a>, file: &str, from: &str) -> Option<Named<
     Some(Named { name, kind })
 }
 
-fn order_of(found: &ArgMatches<'_>) -> Order {
-    match found.get_str("order") {
-        Some("length-first") => Order::LengthFirst,
-        _ => Order::Bytewise,
-    }
-}
-
 /// The format that an option names. A command without that option reads or writes bytes.
 fn kind_of(found: &ArgMatches<'_>, name: &str) -> Kind {
     match found.get_str(name) {
@@ -182,43 +167,74 @@ fn kind_of(found: &ArgMatches<'_>, name: &str) -> Kind {
     }
 }
 
-fn program<'a>(alloc: Global) -> Result<Command<'a>, AllocError> {
+/// The program with its commands. Those that the words don't name have no arguments, which saves time.
+fn program<'a>(alloc: Global, words: &[&str]) -> Result<Command<'a>, AllocError> {
     let mut program = Command::new(alloc, "cborn")
         .version("0.6.0-dev")
-        .about(help::PROGRAM)
-        .after_long_help(help::PROGRAM_NOTES)
+        .about(ABOUT)
+        .after_long_help(NOTES)
         .subcommand_required(true)
         .disable_help_subcommand(true);
     for form in COMMANDS {
-        program = program.subcommand(command(alloc, form)?)?;
+        let is_named = words.iter().any(|word| *word == form.name);
+        program = program.subcommand(command(alloc, form, is_named)?)?;
     }
     Ok(program)
 }
 
-fn command<'a>(alloc: Global, form: &Form) -> Result<Command<'a>, AllocError> {
+fn command<'a>(alloc: Global, form: &Form, has_arguments: bool) -> Result<Command<'a>, AllocError> {
     let mut command = Command::new(alloc, form.name)
         .about(form.about)
         .after_long_help(form.notes);
-    for argument in form.arguments {
-        command = command.arg(argument_of(alloc, argument))?;
+    if has_arguments {
+        for name in form.arguments.split(' ') {
+            command = command.arg(argument_of(alloc, form.name, name))?;
+        }
     }
     Ok(command)
 }
 
-fn argument_of<'a>(alloc: Global, argument: &Argument) -> Arg<'a> {
-    let Argument(name, help, takes) = *argument;
-    let arg = Arg::new(alloc, name).help(help);
-    match takes {
-        Takes::File => arg,
-        Takes::RequiredFile => arg.required(true),
-        Takes::Files => arg.num_args(0..).action(ArgAction::Append),
-        Takes::Output(letter) => arg.short(letter).long(name).value_name("FILE"),
-        Takes::Value(value, parser, default) => arg
-            .long(name)
-            .value_name(value)
-            .value_parser(parser)
-            .hide_possible_values(true)
-            .default_value(default),
-        Takes::Nothing => arg.long(name).action(ArgAction::SetTrue),
-    }
+/// The options that a command may lack, while another has them, or another name is meant by them.
+const MISPLACED: &str = "--from --to --order --output -o --in-place -i";
+
+/// The command of the words, and the line on the first of those options that they have and it lacks.
+/// `None`: there is no line on these words. Their first is the program's name, the second the command's.
+fn advice_on(words: &[&str]) -> Option<(&'static Form, &'static str)> {
+    let name = *words.get(1)?;
+    let form = COMMANDS.iter().find(|form| form.name == name)?;
+    let mut given = MISPLACED
+        .split(' ')
+        .filter(|option| has_option(words, option));
+    let line = given.find_map(|option| line_on(name, option))?;
+    Some((form, line))
+}
+
+/// Whether an option is among the words, alone or with `=` and a value. After `--` there are no options.
+fn has_option(words: &[&str], option: &str) -> bool {
+    let mut options = words.iter().take_while(|word| **word != "--");
+    options.any(|word| match word.strip_prefix(option) {
+        Some(rest) => rest.is_empty() || rest.starts_with('='),
+        None => false,
+    })
+}
+
+/// The line on an option that a command doesn't have. `None`: there is no advice on it.
+fn line_on(command: &str, option: &str) -> Option<&'static str> {
+    Some(match (command, option) {
+        ("compare", "--from") =>
+            "compare reads two files, and each has its own format: use '--from-a <KIND>' for FILE_A and '--from-b <KIND>' for FILE_B, in place of '--from'",
+        ("compare", "--to") =>
+            "compare writes no items, and has no '--to': '--from-a <KIND>' and '--from-b <KIND>' are the formats of its files",
+        ("check", "--from") =>
+            "check reads bytes alone, and has no '--from': 'cborn show --from notation --to wire' writes the bytes of a text",
+        ("check", "--to") =>
+            "check writes no items, and has no '--to': 'cborn normalise' writes the deterministic encoding",
+        ("show", "--order") =>
+            "show sorts nothing, and has no '--order': 'cborn normalise --to notation' sorts the keys of maps",
+        ("check", "--output" | "-o") =>
+            "check writes no items, and has no '--output': 'cborn normalise --output <FILE>' writes the deterministic encoding to FILE",
+        ("normalise" | "show", "--in-place" | "-i") =>
+            "there is no such option: '-o <FILE>' writes to FILE once the answer is whole, and FILE may be the input",
+        _ => return None,
+    })
 }

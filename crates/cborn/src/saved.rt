@@ -10,13 +10,10 @@ use std::{fs, io};
 
 /// How many symbolic links are followed, one to the next.
 const MOST_LINKS: usize = 40;
-
 /// How many names are tried for a new file.
 const MOST_NAMES: usize = 1000;
-
 /// The mode of a new file in place of none, before the system takes away what its mask says.
 const NEW_MODE: u32 = 0o666;
-
 /// The bits of a mode that a new file takes from the one whose place it takes: who may read, write and
 /// run it.
 const KEPT_BITS: u32 = 0o777;
@@ -50,10 +47,7 @@ impl<'r, 'p, F: Files> SavedFile<'r, 'p, F> {
         }
     }
 
-    /// Puts the new file in the place of the one that was named.
-    ///
-    /// # Errors
-    /// Why that failed; then the new file is removed.
+    /// Puts the new file in the place of the one that was named. Where that fails, it is removed.
     #[inline(never)]
     pub fn finish(&mut self) -> io::Result<()> {
         let new = self.taken()?;
@@ -98,28 +92,22 @@ impl<F: Files> Write for SavedFile<'_, '_, F> {
     }
 }
 
-/// Makes a new file beside the one of this name, with the mode of that one, if it is there.
-///
-/// # Errors
-/// Why it can't be made, or that the one of this name is no regular file.
+/// Makes a new file beside the one of this name, with the mode of that one, if it is there and regular.
 fn new_file<F: Files>(files: &F, alloc: Global, name: &str) -> io::Result<NewFile<F::File>> {
     let target = followed(files, alloc, name)?;
     let mode = mode_of(files, &target)?;
     let (path, file) = opened_beside(files, alloc, &target, mode.unwrap_or(NEW_MODE))?;
-    if let Some(mode) = mode {
-        // the mask may have taken something away
-        if let Err(why) = file.set_permissions(Permissions::from_mode(mode)) {
-            let _ = fs::remove_file(files, &path);
-            return Err(why);
-        }
+    // the mask may have taken something away
+    if let Some(mode) = mode
+        && let Err(why) = file.set_permissions(Permissions::from_mode(mode))
+    {
+        let _ = fs::remove_file(files, &path);
+        return Err(why);
     }
     Ok(NewFile { file, path, target })
 }
 
 /// The path of the file of this name. Where it is a symbolic link, the path that it leads to.
-///
-/// # Errors
-/// Why a link can't be read, or that there are too many.
 fn followed<F: Files>(files: &F, alloc: Global, name: &str) -> io::Result<PathBuf> {
     let mut path = PathBuf::from_str(alloc, name)?;
     for _ in 0..MOST_LINKS {
@@ -128,16 +116,14 @@ fn followed<F: Files>(files: &F, alloc: Global, name: &str) -> io::Result<PathBu
                 path.pop();
                 path.push(&next)?;
             }
-            Err(why) if is_no_link(why.kind()) => return Ok(path),
+            // the path leads to something else than a link, or to nothing
+            Err(why) if matches!(why.kind(), ErrorKind::InvalidInput | ErrorKind::NotFound) => {
+                return Ok(path);
+            }
             Err(why) => return Err(why),
         }
     }
     Err(io::Error::from(ErrorKind::FilesystemLoop))
-}
-
-/// Whether a link can't be read since the path leads to something else, or to nothing.
-fn is_no_link(why: ErrorKind) -> bool {
-    matches!(why, ErrorKind::InvalidInput | ErrorKind::NotFound)
 }
 
 /// Who may read, write and run the file at a path, if it is a regular one. `None`: there is no such file.
@@ -151,9 +137,6 @@ fn mode_of<F: Files>(files: &F, path: &PathBuf) -> io::Result<Option<u32>> {
 }
 
 /// Makes a file in the folder of `target`, by a name that isn't taken. Answers its path too.
-///
-/// # Errors
-/// Why it can't be made, or that all names that are tried are taken.
 fn opened_beside<F: Files>(
     files: &F,
     alloc: Global,
