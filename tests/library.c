@@ -1,15 +1,9 @@
 /* Answers calls of the library, one for each line of standard input, and tests with each what no proof reaches:
 
-       normalise FROM TO ORDER DEPTH FILE
-       show FROM TO DEPTH FILE
-       check ORDER DEPTH FILE
-       compare FROM_A FROM_B DEPTH FILE FILE
-       same FROM_A FROM_B DEPTH FILE FILE
-       end DEPTH START FILE
-       explain FROM DEPTH NUMBER PLACE FILE
-       words NUMBER
+       CALL FROM TO ORDER DEPTH NUMBER PLACE FILE [FILE]
 
-   and normalise-one, show-one, check-one and compare-one as the call without -one.
+   A call is normalise, show, check or compare, one of these with -one, same, end, explain, or words, which has no file. It has
+   each number, also those that it makes nothing of. TO is that of the second file, if there is one.
 
    Each gets a line 'CODE PLACE LENGTH', and then LENGTH bytes. What is tested: inputs and buffers end where memory
    ends, so that an access one byte too far ends the program. For a buffer one byte too small, and for NULL with length 0,
@@ -370,23 +364,13 @@ static bool parsed(const char *line, call *asked, char *first, char *second)
 {
     memset(asked, 0, sizeof *asked);
     *first = *second = 0;
-    sscanf(line, "%15s", asked->name);
+    int count = sscanf(line, "%15s %u %u %u %lu %u %lu %4095s %4095s", asked->name, &asked->from, &asked->to, &asked->order, &asked->depth,
+                       &asked->number, &asked->place, first, second);
     char *suffix = strstr(asked->name, "-one");
     asked->one = suffix != NULL;
     if (asked->one)
         *suffix = 0;
-    if (is_called(asked, "normalise"))
-        return sscanf(line, "%*s %u %u %u %lu %4095s", &asked->from, &asked->to, &asked->order, &asked->depth, first) == 5;
-    if (is_called(asked, "show"))
-        return sscanf(line, "%*s %u %u %lu %4095s", &asked->from, &asked->to, &asked->depth, first) == 4;
-    if (is_called(asked, "check"))
-        return sscanf(line, "%*s %u %lu %4095s", &asked->order, &asked->depth, first) == 3;
-    if (is_called(asked, "end"))
-        return sscanf(line, "%*s %lu %lu %4095s", &asked->depth, &asked->place, first) == 3;
-    if (is_called(asked, "explain"))
-        return sscanf(line, "%*s %u %lu %u %lu %4095s", &asked->from, &asked->depth, &asked->number, &asked->place, first) == 5;
-    return (is_called(asked, "compare") || is_called(asked, "same")) &&
-           sscanf(line, "%*s %u %u %lu %4095s %4095s", &asked->from, &asked->to, &asked->depth, first, second) == 5;
+    return count == (is_called(asked, "words") ? 7 : is_called(asked, "compare") || is_called(asked, "same") ? 9 : 8);
 }
 
 /* A place beyond the end counts as the end, where one is explained, and what is no argument leaves all as it was. */
@@ -449,13 +433,12 @@ int main(void)
     while (fgets(line, sizeof line, stdin)) {
         call asked;
         uint8_t *out;
-        unsigned number;
-        if (sscanf(line, "words %u", &number) == 1) {
-            tell_words(number);
-            continue;
-        }
         if (!parsed(line, &asked, first, second))
             fail(line, NULL, 0);
+        if (is_called(&asked, "words")) {
+            tell_words(asked.number);
+            continue;
+        }
         asked.first = opened(first);
         if (*second)
             asked.second = opened(second);

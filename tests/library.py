@@ -24,8 +24,8 @@ import subprocess
 import sys
 import tempfile
 
-from reading import head
 import shared
+from reading import chunked, embedded, head
 from run import FORMS, Case, Outcome, cases, listed, single_runs, tables_in
 
 HERE = pathlib.Path(__file__).resolve().parent
@@ -41,21 +41,17 @@ OF_PROGRAM = ("several.table", "output.table")
 WRAPPED = "-Wl,--wrap=malloc,--wrap=realloc,--wrap=free"
 
 
-def words_of_header():
-    """The words of each number of a fault in the header: the comment after it."""
-    text = (TOP / "include/cborn.h").read_text()
-    return {int(n, 16): words for n, words in re.findall(r"= (0x[0-9a-f]{3}),\s*/\* (.*?) \*/", text)}
+# the words of each number of a fault: the comment after it in the header, a row of the page up to what explains it, and those in Rust
+WORDS = {
+    "header": ("include/cborn.h", r"= (0x[0-9a-f]{3}),\s*/\* (.*?) \*/"),
+    "page": ("docs/FORMATS.md", r"^\| `(0x[0-9a-f]{3})` \| ([^|:,]+?)(?:[:,][^|]*)? \|"),
+    "rust": ("bindings/rust/src/reasons.rs", r' = (0x[0-9a-f]{3}), "(.*?)";'),
+}
 
 
-def words_of_page():
-    """Those in the documents: | `0x101` | words |, up to what explains them."""
-    text = (TOP / "docs/FORMATS.md").read_text()
-    return {int(n, 16): words for n, words in re.findall(r"^\| `(0x[0-9a-f]{3})` \| ([^|:,]+?)(?:[:,][^|]*)? \|", text, re.MULTILINE)}
-
-
-def words_of_rust():
-    text = (TOP / "bindings/rust/src/reasons.rs").read_text()
-    return {int(n, 16): words for n, words in re.findall(r' = (0x[0-9a-f]{3}), "(.*?)";', text)}
+def words_in(name):
+    path, row = WORDS[name]
+    return {int(n, 16): words for n, words in re.findall(row, (TOP / path).read_text(), re.MULTILINE)}
 
 
 def stack_of(path):
@@ -71,9 +67,8 @@ class Options(argparse.ArgumentParser):
 def parser():
     words = Options(add_help=False)
     words.add_argument("command", choices=("normalise", "show", "check", "compare"))
-    words.add_argument("--from", dest="source", choices=KINDS, default="wire")
-    words.add_argument("--from-a", choices=KINDS, default="wire")
-    words.add_argument("--from-b", choices=KINDS, default="wire")
+    for name, of_input in (("--from", "source"), ("--from-a", "from_a"), ("--from-b", "from_b")):
+        words.add_argument(name, dest=of_input, choices=KINDS, default="wire")
     words.add_argument("--to", choices=("wire", "notation"))
     words.add_argument("--order", choices=ORDERS, default="bytewise")
     words.add_argument("--depth", type=int, default=128)
@@ -93,10 +88,7 @@ def parsed(case):
         return None
     if case.status == 3 and 1 <= asked.depth <= 1024:
         return None
-    if asked.command == "compare":
-        if len(asked.files) != 2:
-            return None
-    elif not asked.files:
+    if asked.command != "compare" and not asked.files:
         pathlib.Path(case.folder, "standard-input").write_bytes(case.stdin)
         asked.files = ["standard-input"]
     asked.files = [pathlib.Path(case.folder, name) for name in asked.files]
@@ -106,14 +98,15 @@ def parsed(case):
 
 def line_of(asked, command=None):
     """The call for library.c: the command that is asked for, or another one with the same options."""
-    kinds = {
-        "normalise": lambda: (KINDS[asked.source], KINDS[asked.to or "wire"], ORDERS[asked.order]),
-        "show": lambda: (KINDS[asked.source], KINDS[asked.to or "notation"]),
-        "check": lambda: (ORDERS[asked.order],),
-        "compare": lambda: (KINDS[asked.from_a], KINDS[asked.from_b]),
-    }
     name = f"{asked.command}-one" if asked.one else command or asked.command
-    return " ".join(map(str, (name, *kinds[asked.command](), asked.depth, *asked.files)))
+    written = asked.to or ("notation" if asked.command == "show" else "wire")
+    kinds = (asked.from_a, asked.from_b) if asked.command == "compare" else (asked.source, written)
+    return call_of(name, asked.depth, *asked.files, kinds=[KINDS[kind] for kind in kinds], order=ORDERS[asked.order])
+
+
+def call_of(name, depth, *files, kinds=(0, 0), order=0, number=0, place=0):
+    """The line of a call for library.c."""
+    return " ".join(map(str, (name, *kinds, order, depth, number, place, *files)))
 
 
 def mapped(path):
@@ -164,21 +157,21 @@ class InC:
         code, place, _ = answer
         which = code // OF_SECOND
         kind = KINDS[(asked.from_a, asked.from_b)[which] if asked.command == "compare" else asked.source]
-        answer = self.line(f"explain {kind} {asked.depth} {code} {place} {asked.files[which]}")
+        answer = self.line(call_of("explain", asked.depth, asked.files[which], kinds=(kind, 0), number=code, place=place))
         return answer[2] if answer[:2] == (0, 0) else answer
 
     def ends(self, depth, path):
         """Where the items of a file of bytes end, by cborn_item_end, and what is answered after the last."""
         ends = [0]
-        code, place, _ = self.line(f"end {depth} 0 {path}")
-        while code == 0 and place > ends[-1]:
+        while True:
+            code, place, _ = self.line(call_of("end", depth, path, place=ends[-1]))
+            if code != 0 or place <= ends[-1]:
+                return ends, (code, place)
             ends.append(place)
-            code, place, _ = self.line(f"end {depth} {place} {path}")
-        return ends, (code, place)
 
     def words(self, numbers):
         """The words of those of these numbers that have some."""
-        told = {number: self.line(f"words {number}") for number in numbers}
+        told = {number: self.line(call_of("words", 0, number=number)) for number in numbers}
         return {number: words.decode() for number, (code, _, words) in told.items() if code == 0}
 
     def end(self):
@@ -304,22 +297,6 @@ def spelled(name, data, text):
     return Nest(name, "wire", data, data, data, text, text, "deterministic")
 
 
-def embedded(levels):
-    """What `<<` and `>>` stand for, so many times in one another."""
-    item = b""
-    for _ in range(levels):
-        item = head(2, len(item)) + item
-    return item
-
-
-def chunked(levels):
-    """What `(_ ''<<` and `>>)` stand for, so many times in one another."""
-    item = b""
-    for _ in range(levels):
-        item = b"\x5f" + head(2, len(item)) + item + b"\xff"
-    return item
-
-
 def nests_of(depth):
     """Nests of this depth: of arrays, of maps, of maps in keys, of tags and so on; and an array that is as long."""
 
@@ -384,34 +361,24 @@ def twice(depth):
         yield f"keys of {depth}", [("case", "keys"), ("file", f"nest hex {data.hex()}"), run, stderr, ("status", "2")]
 
 
-class AsProgram:
-    """`python -m cborn`, run as the program is."""
-
-    def __init__(self, folder, build):
-        self.path = pathlib.Path(folder, "cborn")
-        self.path.write_text(f'#!/bin/sh\nPYTHONPATH="{build}/python" exec "{sys.executable}" -m cborn "$@"\n')
-        self.path.chmod(0o755)
-
-    def differences(self, case):
-        """What is wrong with what it does. Its help, and what it says of a wrong command line, are its own."""
-        outcome = case.run(self.path)
-        is_own = case.status == 3 or any(it in case.words for it in ("--help", "-h"))
-        if not is_own:
-            yield from case.differences(outcome)
-        elif outcome.status != case.status or bool(outcome.stdout) == bool(outcome.stderr):
-            yield f"status is {outcome.status}, not {case.status}: {outcome.stdout!r} {outcome.stderr!r}"
-
-
 def through_python(build, runs):
-    """How many of these runs of the tables `python -m cborn` was given, and what is wrong with what it does."""
-    wrong = []
+    """How many of these runs of the tables `python -m cborn` was given, and what is wrong with what it does. Its help, and what it
+    says of a wrong command line, are its own."""
+    count, wrong = 0, []
     with tempfile.TemporaryDirectory() as folder:
-        as_program = AsProgram(folder, build)
-        for table, lines in runs:
-            with tempfile.TemporaryDirectory() as place:
-                case = Case(lines, place)
-                wrong += [f"{table}: {case.name}: python -m cborn: {line}" for line in as_program.differences(case)]
-    return len(runs), wrong
+        program = pathlib.Path(folder, "cborn")
+        program.write_text(f'#!/bin/sh\nPYTHONPATH="{build}/python" exec "{sys.executable}" -m cborn "$@"\n')
+        program.chmod(0o755)
+        for table, case in cases(runs):
+            outcome, count = case.run(program), count + 1
+            if case.status != 3 and not {"--help", "-h"} & {*case.words}:
+                lines = list(case.differences(outcome))
+            elif outcome.status != case.status or bool(outcome.stdout) == bool(outcome.stderr):
+                lines = [f"status is {outcome.status}, not {case.status}: {outcome.stdout!r} {outcome.stderr!r}"]
+            else:
+                continue
+            wrong += [f"{table}: {case.name}: python -m cborn: {line}" for line in lines]
+    return count, wrong
 
 
 def uncut(asked, callers):
@@ -424,7 +391,7 @@ def uncut(asked, callers):
     for piece in pieces:
         if cborn.spell(piece, cborn.Kind.WIRE, asked.depth, True) != piece:
             yield f"cborn_item_end gives {piece.hex()}, which isn't one item"
-    whole = callers["C"].line(f"show 0 0 {asked.depth} {path}")
+    whole = callers["C"].line(call_of("show", asked.depth, path))
     if last != ((NO_ITEM, len(data)) if whole[0] == 0 else whole[:2]):
         yield f"after the items cborn_item_end answers {last}, and cborn_show {whole[:2]}"
     found, refused = [], None
@@ -457,7 +424,7 @@ def tables_of_words(met, callers):
     beside = {number: in_c.pop(number, None) for number in range(0x100)}
     if {n: words for n, words in beside.items() if words} != {OUT_OF_MEMORY: "out of memory", TOO_LONG: "input too long"}:
         yield f"cborn_words has other words for what is no fault of the content: {beside}"
-    tables = {"header": words_of_header(), "page": words_of_page(), "python": callers["Python"].words(), "rust": words_of_rust(), "cborn_words": in_c}
+    tables = {**{name: words_in(name) for name in WORDS}, "python": callers["Python"].words(), "cborn_words": in_c}
     for name, words in tables.items():
         for number in sorted({*words, *tables["header"]}):
             if words.get(number) != tables["header"].get(number):
@@ -469,23 +436,20 @@ def tables_of_words(met, callers):
         yield f"the stack hasn't one figure in each: {figures}"
 
 
-def all_cases(folder):
-    yield from cases(listed(tables_in(HERE, FORMS)))
-    for name, lines in itertools.chain(nests(), *map(twice, (2, 128, 1024))):
-        with tempfile.TemporaryDirectory(dir=folder) as place:
-            yield name, Case(lines, place)
+def all_cases():
+    return cases(itertools.chain(listed(tables_in(HERE, FORMS)), nests(), *map(twice, (2, 128, 1024))))
 
 
 def main():
     program, build = (str(pathlib.Path(word).resolve()) for word in sys.argv[1:])
-    words, met = words_of_header(), set()
+    words, met = words_in("header"), set()
     own = [table for table in tables_in(HERE) if table.name not in OF_PROGRAM]
     runs = ((table, run) for table, lines in listed(own) for run in single_runs(lines))
     through, wrong = shared.over_processors(through_python, runs, build, at_once=16)
     with tempfile.TemporaryDirectory() as folder:
         callers = {"C": InC(folder, build), "Python": InPython(build)}
         passed = others = explained = cut = 0
-        for table, case in all_cases(folder):
+        for table, case in all_cases():
             asked = parsed(case)
             if asked is None:
                 others += 1

@@ -20,6 +20,21 @@ def head(major, number, width=None):
     return bytes([major << 5 | 23 + width.bit_length()]) + number.to_bytes(width, "big")
 
 
+def embedded(levels, item=b""):
+    """What `<<` and `>>` around the text of an item stand for, so many times in one another."""
+    for _ in range(levels):
+        item = head(BYTES, len(item)) + item
+    return item
+
+
+def chunked(levels):
+    """What `(_ ''<<` and `>>)` stand for, so many times in one another."""
+    item = b""
+    for _ in range(levels):
+        item = b"\x5f" + head(BYTES, len(item)) + item + b"\xff"
+    return item
+
+
 class Bytes:
     """Reads well-formed bytes. `defects` gets (place, rank, words) of whatever isn't deterministic, lowest first when sorted."""
 
