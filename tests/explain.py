@@ -10,7 +10,6 @@ well-formed the path is also followed in the notation that `show` writes, to the
 Then compare random inputs, and again what they are with what `normalise` makes of them. The path has to lead to where the
 deterministic encodings of tests/reading.py, or the bytes, first differ, and in each input the place to what is told of it.
 """
-import pathlib
 import os
 import random
 import re
@@ -18,13 +17,14 @@ import sys
 import tempfile
 
 import shared
-from reading import Bytes, canonical, head
+from reading import WIDTHS, Bytes, canonical, head
 
 SEED = 8949
 # the end of a path whose further steps aren't known
 CUT = ".."
 COUNT = 500
-WIDTHS = {24: 1, 25: 2, 26: 4, 27: 8}
+# what has parts, by its major type
+KINDS = {2: "chunk", 3: "chunk", 4: "array", 5: "map"}
 PLACE = re.compile(r"offset (\d+): (.*)")
 STEP = re.compile(r"(\d+\(\)|\(_ #\d+\)|\[\d+\]|<<\d+>>|\{key #\d+\}|\{.*? #\d+\})(?:\*(\d+))?(?: |$)", re.DOTALL)
 TOKEN = re.compile(
@@ -95,20 +95,12 @@ def path_in_bytes(content, place):
         if at + length > min(place, len(content)):
             break
         at += length
-        if info == 31 and major in (2, 3, 4, 5):
-            levels.append([{2: "chunk", 3: "chunk"}.get(major, {4: "array", 5: "map"}.get(major)), 0, None])
+        parts = None if info == 31 and major in KINDS else {4: number, 5: 2 * number, 6: 1}.get(major, 0)
+        if parts != 0:
+            levels.append([KINDS.get(major, number), 0, parts])
             continue
         if info == 31 and major == 7:
             levels.pop()
-        elif major == 4 and number:
-            levels.append(["array", 0, number])
-            continue
-        elif major == 5 and number:
-            levels.append(["map", 0, 2 * number])
-            continue
-        elif major == 6:
-            levels.append([number, 0, 1])
-            continue
         while levels:
             levels[-1][1] += 1
             if levels[-1][2] is None or levels[-1][1] < levels[-1][2]:
@@ -444,41 +436,32 @@ def pairs_of_inputs(choice, count):
         yield inputs, not choice.randrange(3)
 
 
-def compared(library, program, those):
-    """The same of pairs of inputs, each way round, and of each with what is the same in other bytes."""
-    passed = failed = 0
-    lines = []
-    with shared.Served(library, program) as served, tempfile.TemporaryDirectory() as folder:
+def compared(served, those):
+    """Pairs of inputs, each way round, and each with what is the same in other bytes: a name for each, and what is wrong."""
+    with tempfile.TemporaryDirectory() as folder:
         for (left, right), is_text in those:
             in_order = [served.run(["normalise", "--order", order], left).stdout for order in ("bytewise", "length-first")]
             for files in ([left, right], [right, left], *([left, other] for other in in_order)):
-                wrong = list(comparison_faults(served, folder, files, is_text))
-                passed, failed = (passed, failed + 1) if wrong else (passed + 1, failed)
-                lines += [f"compare {files[0].hex()} {files[1].hex()} {'in notation' * is_text}: {line}" for line in wrong]
-    return passed, failed, lines
+                name = f"compare {files[0].hex()} {files[1].hex()} {'in notation' * is_text}"
+                yield name, 1, list(comparison_faults(served, folder, files, is_text))
 
 
-def tried(library, program, those):
-    """Some command lines: how many passed and failed, and what is wrong."""
-    passed = failed = 0
-    lines = []
-    with shared.Served(library, program) as served:
-        for words, content in with_texts(served, those):
-            wrong = list(differences(served, words, content))
-            passed, failed = (passed, failed + 1) if wrong else (passed + 1, failed)
-            lines += [f"{' '.join(words)}: {content if '--from' in words else content.hex(' ')}: {line}" for line in wrong]
-    return passed, failed, lines
+def explained(served, those):
+    """The same of command lines."""
+    for words, content in with_texts(served, those):
+        name = f"{' '.join(words)}: {content if '--from' in words else content.hex(' ')}"
+        yield name, 1, list(differences(served, words, content))
 
 
 def main():
-    program = str(pathlib.Path(sys.argv[1]).resolve())
-    count = int(sys.argv[2]) if len(sys.argv) > 2 else COUNT
-    with shared.library("serve.c") as library:
-        passed, failed, lines = shared.over_processors(tried, inputs(random.Random(SEED), count), library, program, at_once=64)
-        pairs = shared.over_processors(compared, pairs_of_inputs(random.Random(SEED), count), library, program, at_once=64)
-    passed, failed, lines = passed + pairs[0], failed + pairs[1], lines + pairs[2]
-    print(*lines, f"{passed} explanations passed, {failed} failed", sep="\n")
-    return 1 if failed or not passed else 0
+    program, count = sys.argv[1], int(sys.argv[2]) if len(sys.argv) > 2 else COUNT
+    runs = failed = 0
+    for find, made in ((explained, inputs), (compared, pairs_of_inputs)):
+        some, wrong, _, lines = shared.served_over_processors(find, made(random.Random(SEED), count), program, "serve.c", at_once=64)
+        runs, failed = runs + some, failed + wrong
+        print(*lines, sep="\n", end="\n" if lines else "")
+    print(f"{runs - failed} explanations passed, {failed} failed")
+    return 1 if failed or failed == runs else 0
 
 
 if __name__ == "__main__":

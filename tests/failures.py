@@ -14,7 +14,6 @@ as on the longest inputs, its first and its last ones have trouble.
 import collections
 import itertools
 import os
-import pathlib
 import re
 import sys
 
@@ -180,25 +179,17 @@ def tried_on(served, case):
             yield f"{kind} at {trouble}", outcome, answer if answer is ample else answer._replace(left=case.before)
 
 
-def tried(library, program, those):
-    """The command lines of some cases: how many troubles and runs that were, and the wrong ones."""
-    troubles = runs = 0
-    wrong = []
-    with shared.Served(library, program) as served:
-        for table, case in cases(those):
-            runs += 1
-            for name, outcome, answer in tried_on(served, case):
-                troubles += 1
-                if outcome != answer:
-                    wrong.append(f"{table}: {case.name}: {name}: {outcome}, not {answer}")
-    return troubles, runs, wrong
+def in_turn(served, those):
+    """The command lines of some cases: each with how many troubles it had, and the wrong outcomes."""
+    for table, case in cases(those):
+        found = list(tried_on(served, case))
+        wrong = [f"{name}: {outcome}, not {answer}" for name, outcome, answer in found if outcome != answer]
+        yield f"{table}: {case.name}", len(found), wrong
 
 
 def main():
     program, *tables = sys.argv[1:]
-    with shared.library("serve.c", "trouble.c") as library:
-        found = shared.over_processors(tried, listed(tables), library, str(pathlib.Path(program).resolve()))
-    troubles, runs, wrong = found
+    runs, _, troubles, wrong = shared.served_over_processors(in_turn, listed(tables), program, "serve.c", "trouble.c")
     return shared.status(troubles, wrong, f"{troubles} troubles of {runs} command lines made in turn")
 
 

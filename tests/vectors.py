@@ -88,21 +88,21 @@ def spelled_as_shown(served, kind, text):
     return served.run(["show", "--to", "wire", "--from", "notation"], shown).stdout
 
 
-def tried(library, program, those):
-    """Some fronts: how many answers there were, and a line for each wrong one."""
-    count, wrong = 0, []
-    with tempfile.TemporaryDirectory() as folder, shared.Served(library, program) as served:
+def answered(served, those):
+    """Some fronts: each with how many answers there were, and the wrong ones."""
+    with tempfile.TemporaryDirectory() as folder:
         other = pathlib.Path(folder, "other")
         for kind, front, answer in those:
             spelled = front if kind == "wire" else spelled_as_shown(served, kind, front)
+            count, wrong = 0, []
             for words, beside, right in wanted(kind, front, spelled, answer, str(other)):
                 if beside is not None:
                     other.write_bytes(beside)
                 count += 1
                 outcome = served.run(words, front)
                 if outcome != right:
-                    wrong.append(f"{kind} {front!r}: {' '.join(words)}: {outcome}, not {right} ({answer})")
-    return count, wrong
+                    wrong.append(f"{' '.join(words)}: {outcome}, not {right} ({answer})")
+            yield f"{kind} {front!r}", count, wrong
 
 
 def literal(content):
@@ -137,10 +137,9 @@ def main():
             print(f"{module}: isn't what tests/vectors.py --inputs writes")
             return 1
         return 0
-    program = str(pathlib.Path(sys.argv[1]).resolve())
     paths = [pathlib.Path(name) for name in sys.argv[2:]] or [here / "fronts.vectors"]
-    with shared.library("serve.c") as library:
-        count, wrong = shared.over_processors(tried, itertools.chain.from_iterable(map(fronts, paths)), library, program, at_once=256)
+    those = itertools.chain.from_iterable(map(fronts, paths))
+    *_, count, wrong = shared.served_over_processors(answered, those, sys.argv[1], "serve.c", at_once=256)
     return shared.status(count, wrong, f"{count - len(wrong)} answers to fronts passed")
 
 
