@@ -11,7 +11,7 @@ A command line has to answer as it does with enough memory, or with out of memor
 and one line on standard error. An explanation may end with a line that says out of memory, after an unchanged first
 line. If the growth was for the path of a file that was to be opened, the line is that this file can't be read, and with -o
 it may be that the write failed. A test has to pass with enough memory. With a growth refused it has to pass too, or to fail by out of memory: by the error that a
-call answered, and not by an answer that differs. refuse.c, which is compiled by $CC or cc, refuses, and serve.c
+call answered, and not by an answer that differs. trouble.c, which is compiled by $CC or cc, refuses, and serve.c
 begins the runs.
 """
 import collections
@@ -39,7 +39,7 @@ Refused = collections.namedtuple("Refused", "outcome size opened")
 def refused_in_turn(run, *given, first=1, step=1):
     """What came of a run with a request for memory refused: the first, then the one so many steps after it, to the last."""
     for nth in itertools.count(first, step):
-        outcome, told = run(*given, REFUSE_NTH=str(nth))
+        outcome, told = run(*given, TROUBLE_NTH=str(nth), TROUBLE_KIND="refuse")
         if not told:
             return
         yield Refused(outcome, *map(int, told))
@@ -133,7 +133,7 @@ def main():
     program, *words = sys.argv[1 + is_of_tests :]
     those = shares_of_tests(os.path.abspath(program), words) if is_of_tests else listed(words)
     find = built_tests if is_of_tests else command_lines
-    runs, _, growths, wrong = shared.served_over_processors(find, those, program, "serve.c", "refuse.c")
+    runs, _, growths, wrong = shared.served_over_processors(find, those, program, "serve.c", "trouble.c")
     runs = runs // SHARES if is_of_tests else runs
     return shared.status(growths, wrong, f"{growths} growths of {runs} runs refused in turn")
 

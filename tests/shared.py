@@ -12,7 +12,7 @@ import tempfile
 from run import Outcome
 
 HERE = pathlib.Path(__file__).resolve().parent
-# more than a line of serve.c, refuse.c or trouble.c has
+# more than a line of serve.c or trouble.c has
 LINE = 256
 
 

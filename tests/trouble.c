@@ -1,11 +1,15 @@
-/* Makes trouble for one call of open, read or write, or of what else puts a new file in the place of another: the tests
-   load it before the C library (glibc).
+/* Makes trouble for one call of open, read or write, or of what else puts a new file in the place of another, or refuses one
+   request for memory: the tests load it before the C library (glibc).
 
    The NTH of these calls, from 1, has the trouble KIND: 'fail' and 'interrupt' answer an error, 'short' moves
    one byte at most, and 'nothing' takes no byte of a write. A line goes to the file descriptor TELL then: the
    call's name, its descriptor (0 where it has none), how many files the program had tried to open, and how many bytes it
-   had written to that descriptor. To open a file that is made is called 'create', and doesn't count as an opening. With NTH 0 the line is 'calls N', when the program ends. Standard input gives no more
-   at one time than a pipe holds, so that a long one is read as often in each run. */
+   had written to that descriptor. To open a file that is made is called 'create', and doesn't count as an opening. With NTH 0
+   the line is 'calls N', when the program ends. Standard input gives no more at one time than a pipe holds, so that a long one
+   is read as often in each run.
+
+   With the KIND 'refuse' the NTH call of malloc or realloc gets a null pointer, and no other call has trouble. The line is how
+   many bytes it asked for, and how many files the program had opened. */
 #define _GNU_SOURCE
 #include <errno.h>
 #include <stdarg.h>
@@ -20,7 +24,10 @@
 #define DESCRIPTORS 16
 #define PIPE 65536
 
-static long nth, calls, tried, written[DESCRIPTORS];
+void *__libc_malloc(size_t size);
+void *__libc_realloc(void *old, size_t size);
+
+static long nth, calls, requests, tried, opened, written[DESCRIPTORS];
 static int tell = -1;
 static const char *kind = "";
 
@@ -58,7 +65,7 @@ static int is_kind(const char *word)
 static int is_troubled(const char *name, int fd)
 {
     char line[128];
-    if (++calls != nth)
+    if (is_kind("refuse") || ++calls != nth)
         return 0;
     long before = fd >= 0 && fd < DESCRIPTORS ? written[fd] : 0;
     say(line, snprintf(line, sizeof line, "%s %d %ld %ld\n", name, fd, tried, before));
@@ -74,6 +81,25 @@ static int is_error(int code)
     return 1;
 }
 
+static int is_refused(size_t size)
+{
+    char line[64];
+    if (!is_kind("refuse") || ++requests != nth)
+        return 0;
+    say(line, snprintf(line, sizeof line, "%zu %ld\n", size, opened));
+    return 1;
+}
+
+void *malloc(size_t size)
+{
+    return is_refused(size) ? NULL : __libc_malloc(size);
+}
+
+void *realloc(void *old, size_t size)
+{
+    return is_refused(size) ? NULL : __libc_realloc(old, size);
+}
+
 int open(const char *path, int flags, ...)
 {
     va_list rest;
@@ -83,7 +109,9 @@ int open(const char *path, int flags, ...)
     int is_made = flags & O_CREAT;
     int has_failed = is_troubled(is_made ? "create" : "open", 0) && is_error(EMFILE);
     tried += !is_made;
-    return has_failed ? -1 : (int)syscall(SYS_openat, AT_FDCWD, path, flags, mode);
+    int fd = has_failed ? -1 : (int)syscall(SYS_openat, AT_FDCWD, path, flags, mode);
+    opened += fd >= 0;
+    return fd;
 }
 
 int fsync(int fd)
@@ -119,7 +147,8 @@ ssize_t read(int fd, void *buffer, size_t size)
         if (is_kind("short") && size > 1)
             size = 1;
     }
-    return syscall(SYS_read, fd, buffer, fd == STDIN_FILENO && size > PIPE ? PIPE : size);
+    int is_cut = fd == STDIN_FILENO && size > PIPE && !is_kind("refuse");
+    return syscall(SYS_read, fd, buffer, is_cut ? PIPE : size);
 }
 
 ssize_t write(int fd, const void *bytes, size_t size)
