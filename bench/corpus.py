@@ -1,9 +1,9 @@
 #!/usr/bin/env python3
 """Make the files that the bench runs on.
 
-    corpus.py FOLDER [--scale F]
+    corpus.py FOLDER
 
-What they hold depends on the scale alone. Bytes, at scale 1:
+What they hold is the same each time. Bytes:
 
     integers.cbor   16 MB  one array of integers of mixed widths, a tenth of them wider than needed
     records.cbor    16 MB  one array of records with 20 short text keys in random order
@@ -22,24 +22,17 @@ Texts that are both JSON and diagnostic notation, 10 MB each:
 
 Small inputs, of 7, 100 and 10,000 bytes: small-7.cbor, small-100.cbor, small-10000.cbor.
 """
-import argparse
 import json
 import pathlib
 import random
+import sys
+
+sys.path.append(str(pathlib.Path(__file__).resolve().parent.parent / "tests"))
+
+from reading import head
 
 SEED = 20240208
 MB = 1_000_000
-
-
-def head(major, n, least=0):
-    """The head of a major type, shortest or at least of the width `least` (0 to 4)."""
-    widths = ((24, 0), (1 << 8, 1), (1 << 16, 2), (1 << 32, 4), (1 << 64, 8))
-    for index, (bound, size) in enumerate(widths):
-        if n < bound and index >= least:
-            if size == 0:
-                return bytes([32 * major + n])
-            return bytes([32 * major + 23 + index]) + n.to_bytes(size, "big")
-    raise ValueError(n)
 
 
 def text(words):
@@ -63,7 +56,7 @@ def array(pieces):
 
 def integer(rng):
     n = rng.getrandbits(rng.choice((4, 8, 8, 14, 24, 32, 50, 64)))
-    return head(rng.choice((0, 0, 1)), n, rng.randrange(5) if rng.random() < 0.1 else 0)
+    return head(rng.choice((0, 0, 1)), n, (0, 1, 2, 4, 8)[rng.randrange(5) if rng.random() < 0.1 else 0])
 
 
 def record(rng):
@@ -115,9 +108,9 @@ def tagged(rng, count):
     return b"".join(make(n) for n in range(count))
 
 
-def row(rng, size, make):
-    """An array of texts until they are of this size together."""
-    return ("[" + "".join(fill(size, lambda: make(rng) + ","))[:-1] + "]").encode()
+def row(rng, make):
+    """An array of texts until they are 10 MB together."""
+    return ("[" + "".join(fill(10 * MB, lambda: make(rng) + ","))[:-1] + "]").encode()
 
 
 def written_integer(rng):
@@ -155,17 +148,14 @@ def small(rng, size):
     return front + head(2, rest - width) + rng.randbytes(rest - width)
 
 
-def bytes_made(rng, name, scale):
-    sized = lambda size: int(size * scale)
-    if name == "keys":
-        return keys(rng, sized(200_000))
-    if name == "tagged":
-        return tagged(rng, sized(200_000))
-    make, size = {"integers": (integer, 16), "records": (record, 16), "strings": (string, 32), "nests": (nest, 8)}[name]
-    return array(fill(sized(size * MB), lambda: make(rng)))
-
-
-BYTES = ("integers", "records", "strings", "nests", "keys", "tagged")
+BYTES = {
+    "integers": lambda rng: array(fill(16 * MB, lambda: integer(rng))),
+    "records": lambda rng: array(fill(16 * MB, lambda: record(rng))),
+    "strings": lambda rng: array(fill(32 * MB, lambda: string(rng))),
+    "nests": lambda rng: array(fill(8 * MB, lambda: nest(rng))),
+    "keys": lambda rng: keys(rng, 200_000),
+    "tagged": lambda rng: tagged(rng, 200_000),
+}
 TEXTS = {
     "integers": written_integer,
     "short": written_item,
@@ -177,18 +167,15 @@ SMALL = (7, 100, 10_000)
 
 
 def main():
-    words = argparse.ArgumentParser(description=__doc__, formatter_class=argparse.RawDescriptionHelpFormatter)
-    words.add_argument("folder", type=pathlib.Path)
-    words.add_argument("--scale", type=float, default=1)
-    given = words.parse_args()
-    given.folder.mkdir(parents=True, exist_ok=True)
+    folder = pathlib.Path(sys.argv[1])
+    folder.mkdir(parents=True, exist_ok=True)
     seeded = lambda name: random.Random(f"{SEED}{name}")
-    for name in BYTES:
-        (given.folder / f"{name}.cbor").write_bytes(bytes_made(seeded(name), name, given.scale))
+    for name, make in BYTES.items():
+        (folder / f"{name}.cbor").write_bytes(make(seeded(name)))
     for name, make in TEXTS.items():
-        (given.folder / f"{name}.json").write_bytes(row(seeded(f"{name}.json"), int(10 * MB * given.scale), make))
+        (folder / f"{name}.json").write_bytes(row(seeded(f"{name}.json"), make))
     for size in SMALL:
-        (given.folder / f"small-{size}.cbor").write_bytes(small(seeded(size), size))
+        (folder / f"small-{size}.cbor").write_bytes(small(seeded(size), size))
 
 
 if __name__ == "__main__":

@@ -15,9 +15,8 @@ import sys
 import tempfile
 
 import measuring
-from corpus import head
+from corpus import MB, head
 
-MB = 1_000_000
 OWN = 3_000_000
 GREAT_MAPS = ("map of integers", "map, repeated key last")
 # what is refused at its end, when `show` has written the text of what comes before

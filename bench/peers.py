@@ -18,13 +18,8 @@ REGISTRY = "/usr/share/cargo/registry"
 DEBIAN_PYTHON = "/usr/bin/python3"
 
 # where Debian's packages lie
-ENVIRONMENT = {
-    **os.environ,
-    "GO111MODULE": "off",
-    "GOFLAGS": "",
-    "GOPATH": "/usr/share/gocode",
-    "GOCACHE": str(BUILD / "go-cache"),
-}
+OF_GO = {"GO111MODULE": "off", "GOFLAGS": "", "GOPATH": "/usr/share/gocode", "GOCACHE": str(BUILD / "go-cache")}
+ENVIRONMENT = {**os.environ, **OF_GO}
 
 
 @dataclasses.dataclass
@@ -74,15 +69,8 @@ def of_bytes():
     return [
         rust("ciborium-ll, a loop", "rust-ciborium-ll", "librust-ciborium-ll-dev", about, orders=BOTH),
         rust("serde_cbor", "rust-serde-cbor", "librust-serde-cbor-dev", "a Value for each item", orders=BOTH[:1]),
-        Peer(
-            "fxamacker/cbor",
-            "go-fxamacker",
-            ["go", "build", "-o", go, "main.go"],
-            [go],
-            "golang-go, golang-github-fxamacker-cbor-dev",
-            "an interface{} for each item",
-            orders=BOTH,
-        ),
+        Peer("fxamacker/cbor", "go-fxamacker", ["go", "build", "-o", go, "main.go"], [go],
+             "golang-go, golang-github-fxamacker-cbor-dev", "an interface{} for each item", orders=BOTH),
         cbor2("cbor2", "a Python object for each item", orders=BOTH[1:]),
     ]
 
@@ -92,15 +80,8 @@ def of_notation():
     qt = str(BUILD / "cpp-qt")
     serde = "librust-serde-cbor-dev, librust-serde-json-dev"
     return [
-        Peer(
-            "Qt",
-            "cpp-qt",
-            ["g++", "-O2", "-fPIC", "-o", qt, "driver.cpp", *qt_flags()],
-            [qt],
-            "g++, pkg-config, qtbase5-dev",
-            "a QCborValue for each item, printed",
-            shows=True,
-        ),
+        Peer("Qt", "cpp-qt", ["g++", "-O2", "-fPIC", "-o", qt, "driver.cpp", *qt_flags()], [qt],
+             "g++, pkg-config, qtbase5-dev", "a QCborValue for each item, printed", shows=True),
         rust("serde_json into serde_cbor", "rust-serde-json", serde, "a Value for all", texts=[]),
         cbor2("json into cbor2", "a Python object for all", texts=["from-json"]),
         Peer("jq -c", ".", ["jq", "-n", "1"], ["jq"], "jq", "JSON to JSON: what reading alone costs", texts=["-c", "."]),

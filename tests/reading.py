@@ -11,10 +11,10 @@ BYTES, TEXT, ARRAY, MAP, TAG, SIMPLE = 2, 3, 4, 5, 6, 7
 POSITIVE_BIGNUM, NEGATIVE_BIGNUM = 2, 3
 
 
-def head(major, number, width=None):
-    """The head of a number: with the argument in so many bytes, or the shortest."""
-    if width is None:
-        width = 0 if number < DIRECT else 1 if number < 1 << 8 else 2 if number < 1 << 16 else 4 if number < 1 << 32 else 8
+def head(major, number, least=None):
+    """The head of a number: the shortest, or the shortest of those whose argument has at least so many bytes."""
+    shortest = 0 if number < DIRECT else next(width for width in WIDTHS.values() if number >> 8 * width == 0)
+    width = max(shortest, least or 0)
     if width == 0:
         return bytes([major << 5 | number])
     return bytes([major << 5 | 23 + width.bit_length()]) + number.to_bytes(width, "big")
