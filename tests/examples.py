@@ -9,12 +9,13 @@ input, a map with a duplicate key, each prints the fault or shows the map. An ex
 end, ends with another status. $CC or cc is gcc or clang.
 """
 import itertools
-import os
 import pathlib
 import subprocess
 import sys
 import tempfile
 import textwrap
+
+import shared
 
 TOP = pathlib.Path(__file__).resolve().parent.parent
 FLAGS = ["-std=c11", "-g", "-O1", "-Wall", "-Wextra", "-Werror", "-fsanitize=address,undefined", "-fno-sanitize-recover=all"]
@@ -54,10 +55,9 @@ def examples():
 
 def ran(text, build, folder):
     """What an example writes, and its status."""
-    source, program = pathlib.Path(folder, "example.c"), f"{folder}/example"
+    source = pathlib.Path(folder, "example.c")
     source.write_text(text)
-    compiler = os.environ.get("CC", "cc")
-    subprocess.run([compiler, *FLAGS, f"-I{TOP}/include", "-o", program, str(source), f"{build}/libcborn.a"], check=True)
+    program = shared.compiled(f"{folder}/example", *FLAGS, f"-I{TOP}/include", source, f"{build}/libcborn.a")
     done = subprocess.run([program], capture_output=True, check=False)
     return done.stdout, done.stderr, done.returncode
 
@@ -82,9 +82,7 @@ def main():
     with tempfile.TemporaryDirectory() as folder:
         for heading in sorted(set(found) & set(WANTED)):
             wrong += wrong_of(heading, found[heading], build, folder)
-    for line in wrong:
-        print(line)
-    print(f"{len(found)} examples in C ran under the sanitizers; {len(wrong)} failed")
+    print(*wrong, f"{len(found)} examples in C ran under the sanitizers; {len(wrong)} failed", sep="\n")
     return 1 if wrong or not found else 0
 
 

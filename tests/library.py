@@ -17,7 +17,6 @@ import collections
 import copy
 import itertools
 import mmap
-import os
 import pathlib
 import re
 import subprocess
@@ -119,12 +118,9 @@ class InC:
     """The library, called by library.c."""
 
     def __init__(self, folder, build):
-        self.program = f"{folder}/library"
-        compiler = os.environ.get("CC", "cc")
         flags = ["-std=c11", "-O2", "-Wall", "-Wextra", "-Werror", "-pthread", f"-I{TOP}/include", WRAPPED]
-        sources = [str(HERE / "library.c"), f"{build}/libcborn.a"]
-        subprocess.run([compiler, *flags, "-o", self.program, *sources], check=True)
-        self.child = subprocess.Popen([self.program], stdin=subprocess.PIPE, stdout=subprocess.PIPE)
+        program = shared.compiled(f"{folder}/library", *flags, HERE / "library.c", f"{build}/libcborn.a")
+        self.child = subprocess.Popen([program], stdin=subprocess.PIPE, stdout=subprocess.PIPE)
 
     def line(self, line):
         """What a line of standard input is answered."""
