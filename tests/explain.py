@@ -10,6 +10,7 @@ well-formed the path is also followed in the notation that `show` writes, to the
 Then compare random inputs, and again what they are with what `normalise` makes of them. The path has to lead to where the
 deterministic encodings of tests/reading.py, or the bytes, first differ, and in each input the place to what is told of it.
 """
+import itertools
 import os
 import random
 import re
@@ -26,7 +27,11 @@ COUNT = 500
 # what has parts, by its major type
 KINDS = {2: "chunk", 3: "chunk", 4: "array", 5: "map"}
 PLACE = re.compile(r"offset (\d+): (.*)")
-STEP = re.compile(r"(\d+\(\)|\(_ #\d+\)|\[\d+\]|<<\d+>>|\{key #\d+\}|\{.*? #\d+\})(?:\*(\d+))?(?: |$)", re.DOTALL)
+STEP = re.compile(
+    r"(?:(?P<tag>\d+)\(\)|\(_ #(?P<chunk>\d+)\)|\[(?P<array>\d+)\]|<<(?P<embedded>\d+)>>|\{key #(?P<key>\d+)\}|\{.*? #(?P<value>\d+)\})"
+    r"(?:\*(\d+))?(?: |$)",
+    re.DOTALL,
+)
 TOKEN = re.compile(
     r"(?P<blank>[ \t\r\n]+|/[^/]*/)"
     r"|(?P<string>(?:h|b64)?'(?:\\.|[^'\\])*'|\"(?:\\.|[^\"\\])*\")(?:_\w*)?"
@@ -159,21 +164,9 @@ def told_path(line):
         found = STEP.match(line, at)
         if not found:
             raise ValueError(f"no step at {at} of {line!r}")
-        steps += [told_step(found[1])] * int(found[2] or 1)
+        steps += [(kind, int(number)) for kind, number in found.groupdict().items() if number] * int(found[7] or 1)
         at = found.end()
     return item, steps + [CUT] * cut
-
-
-def told_step(step):
-    if step[0] == "[":
-        return "array", int(step[1:-1])
-    if step.startswith("(_"):
-        return "chunk", int(step[4:-1])
-    if step.startswith("<<"):
-        return "embedded", int(step[2:-2])
-    if step[0] == "{":
-        return "key" if step.startswith("{key #") else "value", int(step.rsplit("#", 1)[1][:-1])
-    return "tag", int(step[:-2])
 
 
 def end_of(content, place):
@@ -205,10 +198,9 @@ def following(text, at):
 def followed(text, path):
     """The part of the fixed notation of some items that a path leads to."""
     item, steps = path
-    node, at = None, 0
-    for _ in range(item + 1):
-        node = parsed(text, at)
-        at = node[1] + 1
+    node = parsed(text, 0)
+    for _ in range(item):
+        node = parsed(text, node[1] + 1)
     for kind, number in steps:
         index = {"key": 2 * number, "value": 2 * number + 1, "tag": 0}.get(kind, number)
         node = node[2][index]
@@ -230,10 +222,8 @@ def differences(served, words, content):
         return
     labels = dict(line.strip().split(maxsplit=1) for line in explained.stderr[len(err) :].decode().split("\n") if line[:2] == "  " and len(line.split()) > 1)
     place, is_text = int(told[1]), "--from" in words
-    if is_text:
-        wanted = path_in_text(content[:place].decode(errors="replace"), len(content[:place].decode(errors="replace")))
-    else:
-        wanted = path_in_bytes(content, place)
+    front = content[:place].decode(errors="replace")
+    wanted = path_in_text(front, len(front)) if is_text else path_in_bytes(content, place)
     path = told_path(labels["path"])
     # where a text isn't UTF-8, a token before that may be wrong, and the path ends there
     before = PLACE.search(served.run(words, content[:place]).stderr.decode()) if is_text and told[2] == "not UTF-8" else None
@@ -299,18 +289,15 @@ def fixed(served, content, *words):
 def named(served, content, path):
     """The line of a path, with the keys of pairs in the place of their indexes."""
     item, steps = path
-    texts = [f"item {item}"]
+    texts = []
     for at, (kind, number) in enumerate(steps):
         text = {"array": f"[{number}]", "tag": f"{number}()", "chunk": f"(_ #{number})", "key": "{key}"}.get(kind)
         if kind == "value":
             key = place_of(content, (item, [*steps[:at], ("key", number)]))
             text = "{%s}" % fixed(served, content[key : end_of(content, key)])
-        times = 1
-        if texts[-1].split("*")[0] == text:
-            last = texts.pop()
-            times += int(last[len(text) + 1 :] or 1)
-        texts.append(f"{text}*{times}" if times > 1 else text)
-    return " ".join(texts)
+        texts.append(text)
+    counted = ((text, len(list(same))) for text, same in itertools.groupby(texts))
+    return " ".join([f"item {item}", *(f"{text}*{times}" if times > 1 else text for text, times in counted)])
 
 
 def told_part(served, content, is_text, line):
@@ -318,8 +305,8 @@ def told_part(served, content, is_text, line):
     found = SIDE.fullmatch(line)
     place, told = int(found["place"]), AROUND.match(found["what"])[1]
     if is_text:
-        end = parsed(content.decode(), len(content[:place].decode()))[1]
-        item = fixed(served, content.decode()[len(content[:place].decode()) : end].encode(), "--from", "notation")
+        text, start = content.decode(), len(content[:place].decode())
+        item = fixed(served, text[start : parsed(text, start)[1]].encode(), "--from", "notation")
     else:
         item = fixed(served, content[place : end_of(content, place)])
     return place, told == item or ".." in told or len(item) > 40

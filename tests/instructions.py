@@ -8,7 +8,6 @@ what it kept in registers, or loses an inlining: nothing else does, since the an
 files of some 16 KB, over what an empty file takes: what the loader does differs from machine to machine. The bounds are of the
 program as it is proved and built; an unproved build may differ by more.
 """
-import argparse
 import base64
 import concurrent.futures
 import os
@@ -159,19 +158,15 @@ def bounds():
 
 
 def main():
-    parser = argparse.ArgumentParser()
-    parser.add_argument("program")
-    parser.add_argument("--write", action="store_true")
-    asked = parser.parse_args()
     if shutil.which("valgrind") is None:
         print("the instructions aren't counted: no valgrind")
         return 0
-    program, those = os.path.abspath(asked.program), list(runs())
+    program, those = os.path.abspath(sys.argv[1]), list(runs())
     commands = FROM_TEXT + FROM_BYTES
     with concurrent.futures.ThreadPoolExecutor(os.cpu_count()) as pool:
         empty = dict(zip(commands, pool.map(lambda command: counted(program, (command, "nothing", b"")), commands)))
         counts = list(pool.map(lambda run: counted(program, run) - empty[run[0]], those))
-    if asked.write:
+    if sys.argv[2:] == ["--write"]:
         rows = (f"{command} | {name} | {int(count * SLACK) + 1}\n" for (command, name, _), count in zip(those, counts))
         BOUNDS.write_text(HEADING + "".join(rows))
         return 0
