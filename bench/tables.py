@@ -125,6 +125,10 @@ def plain(name, words, **more):
     return Call(name, lambda file: (words, file), **more)
 
 
+def own(bench, words):
+    return plain(f"`cborn {words}`", [bench.program, *words.split()])
+
+
 def of_normalise(bench):
     names = {"bytewise": "`cborn normalise`", LENGTH_FIRST: f"`cborn normalise --order {LENGTH_FIRST}`"}
     calls = [plain(name, [bench.program, "normalise", "--order", order]) for order, name in names.items()]
@@ -176,25 +180,16 @@ def of_compare(bench):
 
 
 def of_show(bench):
-    calls = [
-        plain("`cborn show`", [bench.program, "show"]),
-        plain("`cborn normalise --to notation`", [bench.program, "normalise", "--to", "notation"]),
-        plain("`cborn show --to wire`", [bench.program, "show", "--to", "wire"]),
-    ]
+    calls = [own(bench, words) for words in ("show", "normalise --to notation", "show --to wire")]
     calls += [plain(peer.name, peer.call, is_rival=True) for peer in bench.peers if peer.shows]
     return bench.beside("show", bench.bytes, calls)
 
 
 def of_texts(bench):
-    calls = [
-        plain("`cborn normalise --from notation`", [bench.program, "normalise", "--from", "notation"]),
-        plain("`cborn show --from notation --to wire`", [bench.program, "show", "--from", "notation", "--to", "wire"]),
-    ]
-    for peer in bench.peers:
-        if peer.texts is not None:
-            is_rival = "cbor" in peer.name
-            words = [*peer.call, *peer.texts]
-            calls.append(plain(peer.name, words, is_rival=is_rival, same_as=calls[0].name if is_rival else None))
+    calls = [own(bench, words) for words in ("normalise --from notation", "show --from notation --to wire")]
+    for peer in (it for it in bench.peers if it.texts is not None):
+        more = {"is_rival": True, "same_as": calls[0].name} if "cbor" in peer.name else {}
+        calls.append(plain(peer.name, [*peer.call, *peer.texts], **more))
     return bench.beside("texts", bench.texts, calls)
 
 

@@ -10,6 +10,7 @@ same. So this catches a hint that a script gets, or that a person doesn't.
 Of runs with both streams on a terminal those that write CBOR bytes there get a hint before them. A terminal, a pipe and a file must
 get the same bytes, with the same status.
 """
+import contextlib
 import os
 import pathlib
 import pty
@@ -151,18 +152,12 @@ def on_terminal(command, given, folder, out=subprocess.PIPE):
         os.close(theirs)
         out, _ = run.communicate(given)
     told = b""
-    while piece := read_piece(ours):
-        told += piece
+    # a read fails where the other side of the terminal is closed
+    with contextlib.suppress(OSError):
+        while piece := os.read(ours, 4096):
+            told += piece
     os.close(ours)
     return out, told.replace(b"\r\n", b"\n"), run.returncode
-
-
-def read_piece(terminal):
-    """The next bytes, or none where the other side of the terminal is closed."""
-    try:
-        return os.read(terminal, 4096)
-    except OSError:
-        return b""
 
 
 def said(lines):
@@ -196,10 +191,8 @@ def wrong_outputs(program, folder):
 
 def left_in(file):
     """The bytes of a file, which is then removed. None where there is no file."""
-    if not file.exists():
-        return None
-    data = file.read_bytes()
-    file.unlink()
+    data = file.read_bytes() if file.exists() else None
+    file.unlink(missing_ok=True)
     return data
 
 
