@@ -81,15 +81,8 @@ def string(rng):
 def nest(rng):
     inner = head(0, rng.getrandbits(16))
     for _ in range(97):
-        kind = rng.randrange(4)
-        if kind == 0:
-            inner = b"\x82" + inner + b"\x01"
-        elif kind == 1:
-            inner = b"\x9f" + inner + b"\xff"
-        elif kind == 2:
-            inner = b"\xa1\x01" + inner
-        else:
-            inner = b"\xbf\x61a" + inner + b"\xff"
+        opening, closing = ((b"\x82", b"\x01"), (b"\x9f", b"\xff"), (b"\xa1\x01", b""), (b"\xbf\x61a", b"\xff"))[rng.randrange(4)]
+        inner = opening + inner + closing
     return inner
 
 

@@ -63,15 +63,13 @@ def ran(text, build, folder):
 
 
 def wrong_of(heading, text, build, folder):
-    own, of_twice = WANTED[heading]
-    outcome = ran(text, build, folder)
-    if outcome != own:
-        yield f"{heading}: {outcome}"
     if text.count(LOOSE) != 1:
         yield f"{heading}: the input isn't there to be changed"
-    outcome = ran(text.replace(LOOSE, TWICE), build, folder)
-    if outcome != of_twice:
-        yield f"{heading}, with a duplicate key: {outcome}"
+    texts = {heading: text, f"{heading}, with a duplicate key": text.replace(LOOSE, TWICE)}
+    for (name, tried), wanted in zip(texts.items(), WANTED[heading]):
+        outcome = ran(tried, build, folder)
+        if outcome != wanted:
+            yield f"{name}: {outcome}"
 
 
 def main():

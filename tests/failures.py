@@ -25,12 +25,8 @@ KINDS = {
     "read": ("fail", "interrupt", "short"),
     "write": ("fail", "interrupt", "short", "nothing"),
     # of a file that an answer goes to; these are tried again where they are interrupted, but for a renaming
-    "readlink": ("fail",),
-    "statx": ("fail",),
-    "create": ("fail", "interrupt"),
-    "fchmod": ("fail", "interrupt"),
-    "fsync": ("fail", "interrupt"),
-    "rename": ("fail", "interrupt"),
+    **dict.fromkeys(("readlink", "statx"), ("fail",)),
+    **dict.fromkeys(("create", "fchmod", "fsync", "rename"), ("fail", "interrupt")),
 }
 MANY, EACH_END = 64, 2
 STANDARD_OUTPUT, STANDARD_ERROR = 1, 2

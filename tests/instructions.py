@@ -128,12 +128,8 @@ def arrays():
 
 def runs():
     """Each command, with the name and the content of what it reads."""
-    for command in FROM_TEXT:
-        for name, text in texts().items():
-            yield command, name, text.encode()
-    for command in FROM_BYTES:
-        for name, data in arrays().items():
-            yield command, name, data
+    of_texts = [(command, name, text.encode()) for command in FROM_TEXT for name, text in texts().items()]
+    return of_texts + [(command, name, data) for command in FROM_BYTES for name, data in arrays().items()]
 
 
 def counted(program, run):
@@ -161,7 +157,7 @@ def main():
     if shutil.which("valgrind") is None:
         print("the instructions aren't counted: no valgrind")
         return 0
-    program, those = os.path.abspath(sys.argv[1]), list(runs())
+    program, those = os.path.abspath(sys.argv[1]), runs()
     commands = FROM_TEXT + FROM_BYTES
     with concurrent.futures.ThreadPoolExecutor(os.cpu_count()) as pool:
         empty = dict(zip(commands, pool.map(lambda command: counted(program, (command, "nothing", b"")), commands)))

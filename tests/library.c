@@ -235,19 +235,20 @@ static long test_growths(const call *asked, answer told, const uint8_t *out)
     return tried;
 }
 
-/* The stack of one call, on a thread whose stack is painted. */
+/* A call and what it has to answer. */
 typedef struct {
-    const call *asked;
+    call asked;
     answer told;
 } run;
 
+/* The stack of one call, on a thread whose stack is painted. */
 static void *answered_on_thread(void *given)
 {
     run *it = given;
     uint8_t *out = it->told.told.length ? __real_malloc(it->told.told.length) : NULL;
-    answer got = answered(it->asked, out, it->told.told.length);
+    answer got = answered(&it->asked, out, it->told.told.length);
     if (!are_same(got, it->told))
-        fail("another thread has another answer", it->asked, got.code);
+        fail("another thread has another answer", &it->asked, got.code);
     __real_free(out);
     return NULL;
 }
@@ -273,7 +274,7 @@ static size_t stack_of(void *(*body)(void *), run *given)
     pthread_attr_init(&how);
     pthread_attr_setstack(&how, stack, size);
     if (pthread_create(&thread, &how, body, given) != 0)
-        fail("no thread", given->asked, 0);
+        fail("no thread", &given->asked, 0);
     pthread_join(thread, NULL);
     pthread_attr_destroy(&how);
     lowest = 0;
@@ -284,42 +285,36 @@ static size_t stack_of(void *(*body)(void *), run *given)
 
 static size_t most_stack[CBORN_MOST_DEPTH + 1];
 
-static void test_stack(const call *asked, answer told)
+static void test_stack(run *it)
 {
     static size_t bare;
-    run it = {asked, told};
     if (bare == 0)
-        bare = stack_of(nothing_on_thread, &it);
-    size_t used = stack_of(answered_on_thread, &it) - bare;
-    if (asked->depth <= CBORN_MOST_DEPTH && used > most_stack[asked->depth])
-        most_stack[asked->depth] = used;
-    if (told.code != CBORN_BAD_ARGUMENT && used > CBORN_STACK(asked->depth))
-        fail("more stack than CBORN_STACK", asked, (long)used);
+        bare = stack_of(nothing_on_thread, it);
+    size_t used = stack_of(answered_on_thread, it) - bare;
+    unsigned long depth = it->asked.depth;
+    if (depth <= CBORN_MOST_DEPTH && used > most_stack[depth])
+        most_stack[depth] = used;
+    if (it->told.code != CBORN_BAD_ARGUMENT && used > CBORN_STACK(depth))
+        fail("more stack than CBORN_STACK", &it->asked, (long)used);
 }
 
-static call *calls;
-static answer *answers;
+static run *runs;
 static size_t count;
 
-static void keep(call asked, answer told)
+static void keep(run it)
 {
-    calls = __real_realloc(calls, (count + 1) * sizeof *calls);
-    answers = __real_realloc(answers, (count + 1) * sizeof *answers);
-    if (calls == NULL || answers == NULL)
+    runs = __real_realloc(runs, (count + 1) * sizeof *runs);
+    if (runs == NULL)
         fail("no memory to test with", NULL, (long)count);
-    calls[count] = asked;
-    answers[count++] = told;
+    runs[count++] = it;
 }
 
 static void *all_on_thread(void *given)
 {
     for (int round = 0; round < ROUNDS; round++)
-        for (size_t i = 0; i < count; i++) {
-            /* each thread begins elsewhere, so that different calls meet */
-            size_t at = (i + (size_t)given * count / THREADS) % count;
-            run it = {&calls[at], answers[at]};
-            answered_on_thread(&it);
-        }
+        /* each thread begins elsewhere, so that different calls meet */
+        for (size_t i = 0; i < count; i++)
+            answered_on_thread(&runs[(i + (size_t)given * count / THREADS) % count]);
     return NULL;
 }
 
@@ -454,9 +449,10 @@ int main(void)
         if (told.code == CBORN_OK && has_output(&asked))
             test_longer_buffer(&asked, told, out);
         growths += test_growths(&asked, told, out);
-        test_stack(&asked, told);
+        run it = {asked, told};
+        test_stack(&it);
         if (asked.first.length <= SHORT)
-            keep(asked, told);
+            keep(it);
         if (out)
             unguard(out, told.told.length);
     }

@@ -230,13 +230,11 @@ class InPython:
         told, refused = self.refused(self.called, asked, inputs)
         if asked.command in ("check", "compare") and self.refused(self.shortly, asked, inputs) != (None if refused else told is None, refused):
             raise AssertionError(f"the call that only says whether says otherwise: {asked}")
-        if refused:
-            return refused
+        if refused or told is None:
+            return refused or (0, 0, b"")
         if asked.command == "check":
-            return (0, 0, b"") if told is None else (told.reason.number, told.place, b"")
-        if asked.command == "compare":
-            return (0, 0, b"") if told is None else (DIFFERENT, told, b"")
-        return 0, 0, told
+            return told.reason.number, told.place, b""
+        return (DIFFERENT, told, b"") if asked.command == "compare" else (0, 0, told)
 
 
 def printed(asked, answer, words):
