@@ -3,24 +3,7 @@
 
     corpus.py FOLDER
 
-What they hold is the same each time. Bytes:
-
-    integers.cbor   16 MB  one array of integers of mixed widths, a tenth of them wider than needed
-    records.cbor    16 MB  one array of records with 20 short text keys in random order
-    strings.cbor    32 MB  one array of long strings, some in chunks
-    nests.cbor       8 MB  one array of nests of 97 levels, about half of them of indefinite length
-    keys.cbor        2 MB  one map of 200,000 shuffled keys
-    tagged.cbor      6 MB  a sequence of 200,000 small tagged items
-
-Texts that are both JSON and diagnostic notation, 10 MB each:
-
-    integers.json          one array of integers of 1 to 15 digits
-    short.json             one array of items of one to five characters
-    records.json           one array of records with some 20 short text keys in random order
-    nests.json             one array of nests of 20 to 90 arrays
-    strings.json           one array of strings of 8,000 characters, a fifth of which have to be escaped
-
-Small inputs, of 7, 100 and 10,000 bytes: small-7.cbor, small-100.cbor, small-10000.cbor.
+What they hold is the same each time: BYTES as NAME.cbor, TEXTS as NAME.json, and small-N.cbor of each size of SMALL.
 """
 import json
 import pathlib
@@ -106,14 +89,6 @@ def row(rng, make):
     return ("[" + "".join(fill(10 * MB, lambda: make(rng) + ","))[:-1] + "]").encode()
 
 
-def written_integer(rng):
-    return str(rng.choice((1, 1, 1, -1)) * rng.randrange(1 << rng.randrange(1, 50)))
-
-
-def written_item(rng):
-    return rng.choice(("1", "22", '"a"', '"bcd"', "true", "[]", "{}", "[7]", "null"))
-
-
 def written_record(rng):
     word = lambda: "".join(rng.choices("abcdefghijklmnopqrstuvwxyz", k=rng.randint(3, 9)))
     names = list(dict.fromkeys(word() for _ in range(20)))
@@ -123,10 +98,6 @@ def written_record(rng):
 def written_nest(rng):
     depth = rng.randint(20, 90)
     return "[" * depth + str(rng.randrange(1000)) + "]" * depth
-
-
-def written_string(rng):
-    return json.dumps("".join(rng.choices('abc def,ghi"\\\n', k=400)) * 20)
 
 
 def small(rng, size):
@@ -141,20 +112,23 @@ def small(rng, size):
     return front + head(2, rest - width) + rng.randbytes(rest - width)
 
 
+# bytes of one array, of one map, and of a sequence
 BYTES = {
-    "integers": lambda rng: array(fill(16 * MB, lambda: integer(rng))),
-    "records": lambda rng: array(fill(16 * MB, lambda: record(rng))),
-    "strings": lambda rng: array(fill(32 * MB, lambda: string(rng))),
-    "nests": lambda rng: array(fill(8 * MB, lambda: nest(rng))),
-    "keys": lambda rng: keys(rng, 200_000),
-    "tagged": lambda rng: tagged(rng, 200_000),
+    "integers": lambda rng: array(fill(16 * MB, lambda: integer(rng))),  # of mixed widths, a tenth of them wider than needed
+    "records": lambda rng: array(fill(16 * MB, lambda: record(rng))),  # with 20 short text keys in random order
+    "strings": lambda rng: array(fill(32 * MB, lambda: string(rng))),  # long ones, some in chunks
+    "nests": lambda rng: array(fill(8 * MB, lambda: nest(rng))),  # of 97 levels, about half of them of indefinite length
+    "keys": lambda rng: keys(rng, 200_000),  # shuffled, 2 MB
+    "tagged": lambda rng: tagged(rng, 200_000),  # small items, 6 MB
 }
+# texts that are both JSON and diagnostic notation: one array of 10 MB each
 TEXTS = {
-    "integers": written_integer,
-    "short": written_item,
-    "records": written_record,
-    "nests": written_nest,
-    "strings": written_string,
+    "integers": lambda rng: str(rng.choice((1, 1, 1, -1)) * rng.randrange(1 << rng.randrange(1, 50))),  # of 1 to 15 digits
+    "short": lambda rng: rng.choice(("1", "22", '"a"', '"bcd"', "true", "[]", "{}", "[7]", "null")),
+    "records": written_record,  # with some 20 short text keys in random order
+    "nests": written_nest,  # of 20 to 90 arrays
+    # of 8,000 characters, a fifth of which have to be escaped
+    "strings": lambda rng: json.dumps("".join(rng.choices('abc def,ghi"\\\n', k=400)) * 20),
 }
 SMALL = (7, 100, 10_000)
 

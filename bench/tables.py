@@ -26,6 +26,8 @@ import measuring
 import peers
 
 LENGTH_FIRST = "length-first"
+# what a cell says of a run that failed, by its status
+FAILED = {2: "refused", -9: "ended", 137: "ended"}
 # how much memory a run has at most where inputs grow
 MEMORY_GB = 8
 
@@ -37,10 +39,6 @@ def rate(size, seconds):
 
 def megabytes(run, form=",.0f"):
     return format(run.peak / 1e6, form) if run.peak else "?"
-
-
-def failed(run):
-    return {2: "refused", -9: "ended", 137: "ended"}.get(run.status, f"status {run.status}")
 
 
 def table(corner, columns, rows):
@@ -77,12 +75,9 @@ class Bench:
 
     def cell(self, run, size, expected=None):
         if run.status != 0:
-            return failed(run)
+            return FAILED.get(run.status, f"status {run.status}")
         mark = "~" if expected is not None and run.digest != expected else ""
         return f"{mark}{rate(size, run.seconds(self.given.cpu))}/{megabytes(run)}"
-
-    def heads(self, files):
-        return [f"{file.stem} {file.stat().st_size / 1e6:.0f} MB" for file in files]
 
     def beside(self, corner, files, calls, sizes=None):
         """A row for each call, and how many times as quick as the quickest peer the first one is."""
@@ -99,7 +94,7 @@ class Bench:
                 print(corner, call.name, file.stem, cells[-1], file=sys.stderr)
             rows.append((call.name, cells))
         rows.append(("times the quickest peer", [ratio(calls, speeds, file) for file in files]))
-        return table(corner, self.heads(files), rows)
+        return table(corner, [f"{file.stem} {file.stat().st_size / 1e6:.0f} MB" for file in files], rows)
 
 
 def ratio(calls, speeds, file):

@@ -162,20 +162,16 @@ def failed_recipes(root, environment):
     return count, wrong
 
 
-def words_of_page(text):
-    """Those in a man page, which are in italics in the chapters of faults and defects."""
-    chapters = re.findall(r"^\.SH (?:FAULTS|DEFECTS)\n(.*?)^(?=\.SH )", text.replace("\\-", "-"), re.MULTILINE | re.DOTALL)
-    lines = re.findall(r"^\.(I|IR) (.*)", "".join(chapters), re.MULTILINE)
-    return [it for kind, line in lines for it in ([line] if kind == "I" else shlex.split(line)[::2])]
-
-
 def untold(root):
-    """The words of faults, as docs/FORMATS.md numbers them, that the man page lacks."""
+    """The words of faults, as docs/FORMATS.md numbers them, that the man page lacks: there they are in italics in two chapters."""
+    page = (root / "man/cborn.1").read_text().replace("\\-", "-")
+    chapters = re.findall(r"^\.SH (?:FAULTS|DEFECTS)\n(.*?)^(?=\.SH )", page, re.MULTILINE | re.DOTALL)
+    lines = re.findall(r"^\.(I|IR) (.*)", "".join(chapters), re.MULTILINE)
+    told = [it for kind, line in lines for it in ([line] if kind == "I" else shlex.split(line)[::2])]
     words = re.findall(r"^\| `0x[0-9a-f]{3}` \| ([^|:,]+?)(?:[:,][^|]*)? \|", (root / "docs/FORMATS.md").read_text(), re.MULTILINE)
     if not words:
         yield "docs/FORMATS.md numbers no fault"
-    for it in sorted({*words}.difference(words_of_page((root / "man/cborn.1").read_text()))):
-        yield f"man/cborn.1: there is no {it}"
+    yield from (f"man/cborn.1: there is no {it}" for it in sorted({*words}.difference(told)))
 
 
 def other_versions(root):

@@ -19,10 +19,6 @@ CALL = re.compile(r"(?:(\w+)(?:::<[^()]*?>)?::)?(\.)?\b(\w+)(?:::<[^()]*?>)?\(")
 TRAIT = re.compile(r"^pub trait (\w+)", re.M)
 
 
-class Unfit(Exception):
-    """Says why an edit can't be made."""
-
-
 def turned(edit):
     """The lines that an edit changes, each as a file of the crate and a number from 0."""
     path, old, texts = None, None, {}
@@ -36,15 +32,15 @@ def turned(edit):
             old = rest
         elif word == "new" and old and path:
             if texts[path].count(old) != 1:
-                raise Unfit(f"stands {texts[path].count(old)} times in {path.name}, and not once: {old}")
+                raise ValueError(f"stands {texts[path].count(old)} times in {path.name}, and not once: {old}")
             texts[path], old = texts[path].replace(old, rest), None
         else:
-            raise Unfit(f"is no line of an edit: {line}")
+            raise ValueError(f"is no line of an edit: {line}")
     # an old and a new text are one line each, so that all lines keep their numbers
     pairs = {it: zip(it.read_text(encoding="utf-8").splitlines(), text.splitlines()) for it, text in texts.items()}
     lines = {(it, number) for it, both in pairs.items() for number, (was, now) in enumerate(both) if was != now}
     if not lines:
-        raise Unfit("changes nothing")
+        raise ValueError("changes nothing")
     return lines
 
 
@@ -103,7 +99,7 @@ def main():
             count += 1
             try:
                 edits.append(turned(edit))
-            except (Unfit, OSError, AttributeError) as why:
+            except (ValueError, OSError, AttributeError) as why:
                 wrong.append(f"{edit.relative_to(ROOT)}: {why}")
         wrong += [f"crates/{crate}: no must-fail edit turns {it}, or what it calls" for it in unshown(crate, edits)]
     print(*wrong, f"{count} must-fail edits; {len(wrong)} failed", sep="\n")

@@ -250,15 +250,6 @@ def inputs(choice, count):
         yield ["show", "--depth", str(choice.randrange(1, 4))], items
 
 
-def with_texts(served, those):
-    """Command lines with their inputs, and with a text made of an input where it can be shown."""
-    for words, content in those:
-        yield words, content
-        shown = served.run(["show"], content) if words == ["check"] else None
-        if shown and shown.status == 0:
-            yield ["normalise", "--from", "notation"], mutated(random.Random(content), shown.stdout)
-
-
 # what `compare` tells of a side: of bytes the offset, of a text line and column too
 SIDE = re.compile(r"(?:\[(?P<index>\d+)\] )?(?:of the (?P<of>first|second) )?at (?:\d+:\d+ \()?offset (?P<place>\d+)\)?: (?P<what>.*)")
 AROUND = re.compile(r"^(?:the key |an? (?:array|map) of \d+: )?(.*?)(?:, which the (?:first|second|other map) lacks)?$")
@@ -434,10 +425,15 @@ def compared(served, those):
 
 
 def explained(served, those):
-    """The same of command lines."""
-    for words, content in with_texts(served, those):
-        name = f"{' '.join(words)}: {content if '--from' in words else content.hex(' ')}"
-        yield name, 1, list(differences(served, words, content))
+    """The same of command lines, each with its input, and with a text made of an input where it can be shown."""
+    for asked, given in those:
+        runs = [(asked, given)]
+        shown = served.run(["show"], given) if asked == ["check"] else None
+        if shown and shown.status == 0:
+            runs.append((["normalise", "--from", "notation"], mutated(random.Random(given), shown.stdout)))
+        for words, content in runs:
+            name = f"{' '.join(words)}: {content if '--from' in words else content.hex(' ')}"
+            yield name, 1, list(differences(served, words, content))
 
 
 def main():

@@ -147,12 +147,6 @@ def counted(program, run):
     return int(refs[1].replace(b",", b"")) // 1000
 
 
-def bounds():
-    """The bound of each run, in thousands of instructions."""
-    rows = (line.split(" | ") for line in BOUNDS.read_text().splitlines() if not line.startswith("#"))
-    return {(command, name): int(most) for command, name, most in rows}
-
-
 def main():
     if shutil.which("valgrind") is None:
         print("the instructions aren't counted: no valgrind")
@@ -166,7 +160,8 @@ def main():
         rows = (f"{command} | {name} | {int(count * SLACK) + 1}\n" for (command, name, _), count in zip(those, counts))
         BOUNDS.write_text(HEADING + "".join(rows))
         return 0
-    most, wrong = bounds(), 0
+    rows = (line.split(" | ") for line in BOUNDS.read_text().splitlines() if not line.startswith("#"))
+    most, wrong = {(command, name): int(bound) for command, name, bound in rows}, 0
     for (command, name, _), count in zip(those, counts):
         if count > most.get((command, name), 0):
             wrong += 1

@@ -164,14 +164,6 @@ static bool are_same(answer a, answer b)
     return a.code == b.code && a.told.place == b.told.place && a.told.length == b.told.length;
 }
 
-/* Whether from bytes to bytes so much room is enough as docs/LIBRARY.md says. */
-static bool is_bounded(const call *asked, size_t length)
-{
-    size_t given = asked->first.length;
-    bool is_of_bytes = is_called(asked, "normalise") && asked->from == CBORN_WIRE && asked->to == CBORN_WIRE;
-    return !is_of_bytes || length <= given + given / 3;
-}
-
 /* The answer, and its bytes in a buffer that they fill. */
 static answer filled(const call *asked, uint8_t **out)
 {
@@ -179,8 +171,9 @@ static answer filled(const call *asked, uint8_t **out)
     *out = NULL;
     if (told.code != CBORN_TOO_SMALL)
         return told;
-    size_t length = told.told.length;
-    if (!is_bounded(asked, length))
+    size_t length = told.told.length, given = asked->first.length;
+    /* docs/LIBRARY.md says how much room is enough from bytes to bytes */
+    if (is_called(asked, "normalise") && asked->from == CBORN_WIRE && asked->to == CBORN_WIRE && length > given + given / 3)
         fail("an answer is longer than its bound", asked, (long)length);
     *out = guarded(length);
     memset(*out, FILL, length);

@@ -138,15 +138,19 @@ class InC:
     def answer(self, asked):
         return self.line(line_of(asked))
 
-    def same(self, asked):
-        """What cborn_same answers where cborn_compare is asked for, or cborn_compare_one once more."""
-        return self.line(line_of(asked, "same"))
-
-    def in_second_notation(self, asked):
-        """The answer where a command line that asks for notation asks for the second kind of it, which is written as the first is."""
-        second = copy.copy(asked)
-        second.to = "notation-2"
-        return self.answer(second)
+    def contradictions(self, asked, answer):
+        """What is wrong with what has to answer the same: cborn_same, where cborn_compare is asked for (or cborn_compare_one once
+        more), and the second notation, which is written as the first is."""
+        code, place, out = answer
+        if asked.command == "compare":
+            same = self.line(line_of(asked, "same"))
+            if same != (code, 0 if code == DIFFERENT else place, out):
+                yield f"cborn_same answers {same}, cborn_compare {answer}"
+        if asked.to == "notation":
+            second = copy.copy(asked)
+            second.to = "notation-2"
+            if (other := self.answer(second)) != answer:
+                yield f"to the second notation another answer comes: {other}"
 
     def explained(self, asked, answer):
         """What cborn_explain writes on the fault or the defect that was reported."""
@@ -403,12 +407,6 @@ def is_cut(asked):
     return asked.command != "compare" and asked.source == "wire" and 1 <= asked.depth <= 1024 and asked.files[0].stat().st_size <= SHORT
 
 
-def of_same(answer):
-    """What cborn_same answers where cborn_compare answers so."""
-    code, place, out = answer
-    return code, 0 if code == DIFFERENT else place, out
-
-
 def tables_of_words(met, callers):
     """What is wrong with the tables of numbers."""
     in_c = callers["C"].words(range(0x800))
@@ -430,10 +428,6 @@ def tables_of_words(met, callers):
         yield f"the stack hasn't one figure in each: {figures}"
 
 
-def all_cases():
-    return cases(itertools.chain(listed(tables_in(HERE, FORMS)), nests(), *map(twice, (2, 128, 1024))))
-
-
 def main():
     program, build = (str(pathlib.Path(word).resolve()) for word in sys.argv[1:])
     words, met = words_in("header"), set()
@@ -443,7 +437,7 @@ def main():
     with tempfile.TemporaryDirectory() as folder:
         callers = {"C": InC(folder, build), "Python": InPython(build)}
         passed = others = explained = cut = 0
-        for table, case in all_cases():
+        for table, case in cases(itertools.chain(listed(tables_in(HERE, FORMS)), nests(), *map(twice, (2, 128, 1024)))):
             asked = parsed(case)
             if asked is None:
                 others += 1
@@ -452,10 +446,8 @@ def main():
             before = len(wrong)
             for name, caller in callers.items():
                 answer = caller.answer(asked)
-                if name == "C" and asked.command == "compare" and caller.same(asked) != of_same(answer):
-                    wrong.append(f"{table}: {case.name}: cborn_same answers {caller.same(asked)}, cborn_compare {answer}")
-                if name == "C" and asked.to == "notation" and caller.in_second_notation(asked) != answer:
-                    wrong.append(f"{table}: {case.name}: to the second notation another answer comes: {caller.in_second_notation(asked)}")
+                if name == "C":
+                    wrong += [f"{table}: {case.name}: {line}" for line in caller.contradictions(asked, answer)]
                 met.add(answer[0] % OF_SECOND)
                 if not asked.explain:
                     wrong += [f"{table}: {case.name}: from {name}: {line}" for line in differences(case, asked, answer, words, done)]

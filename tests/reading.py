@@ -41,23 +41,20 @@ class Bytes:
     def __init__(self, content):
         self.content, self.place, self.defects = content, 0, []
 
-    def defect(self, place, rank, words):
-        self.defects.append((place, rank, words))
-
     def head(self):
         """Major type and argument of the next head: no argument where the length is indefinite."""
         place, first = self.place, self.content[self.place]
         major, info = first >> 5, first & 31
         self.place += 1
         if info == INDEFINITE:
-            self.defect(place, 2, "indefinite length")
+            self.defects.append((place, 2, "indefinite length"))
             return major, None
         width = WIDTHS.get(info, 0)
         number = int.from_bytes(self.content[self.place : self.place + width], "big") if width else info
         self.place += width
         # the second byte of a simple value is no argument: it has one form
         if major != SIMPLE and head(major, number) != self.content[place : self.place]:
-            self.defect(place, 1, "long head")
+            self.defects.append((place, 1, "long head"))
         return major, number
 
     def string(self, length):
@@ -86,7 +83,7 @@ class Bytes:
             place = self.place
             key = self.item()
             if pairs and key <= before:
-                self.defect(place, 4, "key order")
+                self.defects.append((place, 4, "key order"))
             pairs[key] = self.item()
             before = key
         return pairs
@@ -96,7 +93,7 @@ class Bytes:
             return head(TAG, number) + self.item()
         magnitude = self.string(self.head()[1])
         if len(magnitude) <= 8 or magnitude[0] == 0:
-            self.defect(place, 3, "loose bignum")
+            self.defects.append((place, 3, "loose bignum"))
         return integer(int.from_bytes(magnitude, "big"), number == NEGATIVE_BIGNUM)
 
     def item(self):

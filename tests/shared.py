@@ -1,7 +1,6 @@
 """Runs that are shared out over the processors, the libraries that the loader puts in front of the C library, a program that
 stands ready for its runs by one of them, and what compiles C."""
 import concurrent.futures
-import contextlib
 import itertools
 import os
 import pathlib
@@ -20,13 +19,6 @@ def compiled(made, *words):
     """The path of what $CC or cc makes of C."""
     subprocess.run([os.environ.get("CC", "cc"), "-o", made, *map(str, words)], check=True)
     return made
-
-
-@contextlib.contextmanager
-def library(*sources):
-    """The path of a library, which is made of C files of this folder."""
-    with tempfile.TemporaryDirectory() as folder:
-        yield compiled(f"{folder}/library.so", "-O2", "-shared", "-fPIC", *(HERE / source for source in sources), "-ldl")
 
 
 class Served:
@@ -117,9 +109,10 @@ def tried(find, library, program, those):
 
 
 def served_over_processors(find, runs, program, *sources, at_once=1):
-    """The sums and lines of `tried` for so many runs at once, by a library of these sources. `find(served, some)` yields of each its
+    """The sums and lines of `tried` for so many runs at once, by a library of these C files of this folder. `find(served, some)` yields of each its
     name, how many attempts it was, and the lines of what is wrong."""
-    with library(*sources) as made:
+    with tempfile.TemporaryDirectory() as folder:
+        made = compiled(f"{folder}/library.so", "-O2", "-shared", "-fPIC", *(HERE / source for source in sources), "-ldl")
         return over_processors(tried, runs, find, made, str(pathlib.Path(program).resolve()), at_once=at_once)
 
 

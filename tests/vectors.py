@@ -82,18 +82,16 @@ def fronts(path):
                 yield kind, content[:length], answer
 
 
-def spelled_as_shown(served, kind, text):
-    """The bytes that a text spells once it is shown: those that it has to spell itself."""
-    shown = served.run(["show", "--from", kind], text).stdout
-    return served.run(["show", "--to", "wire", "--from", "notation"], shown).stdout
-
-
 def answered(served, those):
     """Some fronts: each with how many answers there were, and the wrong ones."""
     with tempfile.TemporaryDirectory() as folder:
         other = pathlib.Path(folder, "other")
         for kind, front, answer in those:
-            spelled = front if kind == "wire" else spelled_as_shown(served, kind, front)
+            spelled = front
+            if kind != "wire":
+                # a text has to spell what it spells once it is shown
+                shown = served.run(["show", "--from", kind], front).stdout
+                spelled = served.run(["show", "--to", "wire", "--from", "notation"], shown).stdout
             count, wrong = 0, []
             for words, beside, right in wanted(kind, front, spelled, answer, str(other)):
                 if beside is not None:
