@@ -20,13 +20,11 @@ import timeit
 
 HERE = pathlib.Path(__file__).resolve().parent
 REGISTRY = pathlib.Path("/usr/share/cargo/registry")
-CARGO = """[package]
+CARGO = """bin = [{{ name = "calls", path = "{main}" }}]
+[package]
 name = "calls"
 version = "0.0.0"
 edition = "2021"
-[[bin]]
-name = "calls"
-path = "{main}"
 [dependencies]
 cborn = {{ path = "{crate}" }}
 serde_cbor = "0.11"

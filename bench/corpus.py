@@ -84,11 +84,6 @@ def tagged(rng, count):
     return b"".join(make(n) for n in range(count))
 
 
-def row(rng, make):
-    """An array of texts until they are 10 MB together."""
-    return ("[" + "".join(fill(10 * MB, lambda: make(rng) + ","))[:-1] + "]").encode()
-
-
 def written_record(rng):
     word = lambda: "".join(rng.choices("abcdefghijklmnopqrstuvwxyz", k=rng.randint(3, 9)))
     names = list(dict.fromkeys(word() for _ in range(20)))
@@ -140,7 +135,9 @@ def main():
     for name, make in BYTES.items():
         (folder / f"{name}.cbor").write_bytes(make(seeded(name)))
     for name, make in TEXTS.items():
-        (folder / f"{name}.json").write_bytes(row(seeded(f"{name}.json"), make))
+        rng = seeded(f"{name}.json")
+        items = "".join(fill(10 * MB, lambda: make(rng) + ","))
+        (folder / f"{name}.json").write_text(f"[{items[:-1]}]", encoding="utf-8")
     for size in SMALL:
         (folder / f"small-{size}.cbor").write_bytes(small(seeded(size), size))
 

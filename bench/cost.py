@@ -21,22 +21,14 @@ OWN = 3_000_000
 GREAT_MAPS = ("map of integers", "map, repeated key last")
 # what is refused at its end, when `show` has written the text of what comes before
 REFUSED_LATE = (
-    "flat, bad text last",
-    "cut array",
-    "array with no break",
-    "flat, too deep last",
-    "keys in keys, bad text last",
-    "keys in keys, long heads, bad text after",
-    "map out of order, bad text after",
-    "great pair out of order, bad text after",
-    "text in chunks, bad one last",
+    "flat, bad text last", "cut array", "array with no break", "flat, too deep last", "keys in keys, bad text last",
+    "keys in keys, long heads, bad text after", "map out of order, bad text after",
+    "great pair out of order, bad text after", "text in chunks, bad one last",
 )
 # maps whose pairs are copied while they are arranged, where an input is judged
 ARRANGED = (
-    "map out of order, bad text after",
-    "key is a map out of order",
-    "great pair out of order, bad text after",
-    "key is a map with a great pair",
+    "map out of order, bad text after", "key is a map out of order",
+    "great pair out of order, bad text after", "key is a map with a great pair",
 )
 MOST = 2.5
 # what is known to take more than MOST

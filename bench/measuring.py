@@ -47,27 +47,22 @@ def spawned(words, source, sink, memory, environment):
     return subprocess.Popen(words, start_new_session=True, **how)
 
 
-def waited(child, limit):
-    """The status and what was used, the child's children included; after `limit` seconds all of them are ended."""
-    ended = threading.Timer(limit, lambda: os.killpg(child.pid, signal.SIGKILL))
-    ended.start()
-    _, status, used = os.wait4(child.pid, 0)
-    ended.cancel()
-    child.returncode = os.waitstatus_to_exitcode(status)
-    return child.returncode, used
-
-
 def once(words, source, sink, limit=120, memory=None, environment=None):
-    """A run that reads the file `source` and writes the file `sink`. `memory` bounds its address space, in bytes."""
+    """A run that reads the file `source` and writes the file `sink`. `memory` bounds its address space, in bytes. After `limit`
+    seconds the child and its own children are ended."""
     with tempfile.NamedTemporaryFile("r") as told, open(source, "rb") as read, open(sink, "wb") as write:
         front = [TIME, "-q", "-f", "%M", "-o", told.name] if TIME else []
         start = time.perf_counter()
         child = spawned([*front, *words], read, write, memory, environment)
-        status, used = waited(child, limit)
+        ended = threading.Timer(limit, os.killpg, (child.pid, signal.SIGKILL))
+        ended.start()
+        _, status, used = os.wait4(child.pid, 0)
+        ended.cancel()
+        child.returncode = os.waitstatus_to_exitcode(status)
         wall = time.perf_counter() - start
         lines = told.read().split()
         peak = int(lines[-1]) * 1024 if lines else 0
-    return Run(wall, used.ru_utime + used.ru_stime, peak, status, pathlib.Path(sink).stat().st_size, digest(sink))
+    return Run(wall, used.ru_utime + used.ru_stime, peak, child.returncode, pathlib.Path(sink).stat().st_size, digest(sink))
 
 
 def best(words, source, sink, count, is_processor=False, **options):

@@ -32,11 +32,6 @@ FAILED = {2: "refused", -9: "ended", 137: "ended"}
 MEMORY_GB = 8
 
 
-def rate(size, seconds):
-    speed = size / 1e6 / seconds
-    return f"{speed:.0f}" if speed >= 9.95 else f"{speed:.1f}"
-
-
 def megabytes(run, form=",.0f"):
     return format(run.peak / 1e6, form) if run.peak else "?"
 
@@ -77,7 +72,8 @@ class Bench:
         if run.status != 0:
             return FAILED.get(run.status, f"status {run.status}")
         mark = "~" if expected is not None and run.digest != expected else ""
-        return f"{mark}{rate(size, run.seconds(self.given.cpu))}/{megabytes(run)}"
+        rate = size / 1e6 / run.seconds(self.given.cpu)
+        return f"{mark}{rate:.{0 if rate >= 9.95 else 1}f}/{megabytes(run)}"
 
     def beside(self, corner, files, calls, sizes=None):
         """A row for each call, and how many times as quick as the quickest peer the first one is."""

@@ -3,10 +3,9 @@
 
     big.py PROGRAM [--into FILE] [--temporary FOLDER]
 
-The inputs are in their deterministic encoding: small integers one after another, an array of them, and a byte string.
-So `normalise` and `show --to wire` have to write what they read, and `check` to tell that it is deterministic. With one
-byte more each has to be refused as too long. A cell is seconds of wall time and the peak memory in MB. With --into the
-table takes the place of what stands between `<!-- begin big -->` and `<!-- end big -->`. Nothing is left on the disk.
+The inputs are in their deterministic encoding, so `normalise` and `show --to wire` have to write what they read, and `check`
+to tell that it is deterministic. With one byte more each has to be refused as too long. A cell is seconds of wall time and the
+peak memory in MB. With --into the table takes the place of what stands between `<!-- begin big -->` and `<!-- end big -->`.
 """
 import argparse
 import os

@@ -9,7 +9,6 @@ An edit shows a function that it turns, and each that calls one which it shows. 
 for those that have no clause, the laws, and the methods of a trait, which stand at the types that have them. Calls are found
 by name, within the crate: of a method by that of its type, or after a dot in a file that names the type.
 """
-import pathlib
 import re
 import sys
 
@@ -95,7 +94,7 @@ def main():
     count, wrong = 0, []
     for crate in CRATES:
         edits = []
-        for edit in sorted(pathlib.Path(ROOT, "crates", crate).glob("must-fail/*")):
+        for edit in sorted(ROOT.glob(f"crates/{crate}/must-fail/*")):
             count += 1
             try:
                 edits.append(turned(edit))

@@ -255,11 +255,6 @@ SIDE = re.compile(r"(?:\[(?P<index>\d+)\] )?(?:of the (?P<of>first|second) )?at 
 AROUND = re.compile(r"^(?:the key |an? (?:array|map) of \d+: )?(.*?)(?:, which the (?:first|second|other map) lacks)?$")
 
 
-def first_difference(left, right):
-    """How many bytes two byte strings have in common at their start."""
-    return next((at for at, (ours, theirs) in enumerate(zip(left, right)) if ours != theirs), min(len(left), len(right)))
-
-
 def to_key(path):
     """A path up to the first key on it."""
     item, steps = path
@@ -306,7 +301,8 @@ def told_part(served, content, is_text, line):
 def difference_faults(served, files, is_text, told):
     """What is wrong with where two inputs are told to differ. The second may be the text of bytes."""
     encodings = [b"".join(canonical(content)) for content in files]
-    at = first_difference(*encodings)
+    # of byte strings too it is what they have in common at their start
+    at = len(os.path.commonprefix(encodings))
     wanted = named(served, encodings[0], to_key(path_in_bytes(encodings[0], at)))
     path = told["path"][0]
     if ".." in path or len(wanted) > 40:
@@ -338,7 +334,7 @@ def difference_faults(served, files, is_text, told):
 
 def spelling_faults(files, text, told):
     """What is wrong with where the bytes of two inputs that are the same are told to differ. The second may be a text."""
-    path = path_in_bytes(files[0], first_difference(*files))
+    path = path_in_bytes(files[0], len(os.path.commonprefix(files)))
     wanted = to_key(path) if told.get("why") else path
     if told_path(told["path"][0]) != wanted:
         yield f"the path is {told['path'][0]}, not {wanted}"

@@ -66,11 +66,6 @@ def which_input(words, number):
     return ("first: ", "second: ")[number] if words[:1] == ["compare"] else ""
 
 
-def escaped(name):
-    """A name as it is printed: with control characters and backslashes escaped."""
-    return re.sub(r"[\x00-\x1f\x7f-\x9f\\\\]", lambda it: f"\\u{ord(it[0]):04x}", name).encode()
-
-
 # what a run says of one of several files: to standard output, to standard error, and its status
 Part = collections.namedtuple("Part", "out err status")
 
@@ -81,7 +76,8 @@ def parts_of(words, ample):
     out, err = (list(text.splitlines(keepends=True)) for text in ample[:2])
     parts = []
     for name in names if len(names) > 1 and ample.status != 3 else []:
-        name, ours = escaped(name), []
+        # it is printed with control characters and backslashes escaped
+        name, ours = re.sub(r"[\x00-\x1f\x7f-\x9f\\\\]", lambda it: f"\\u{ord(it[0]):04x}", name).encode(), []
         own = (b"cborn: " + name + b": ", b"cborn: cannot read " + name + b"\n", b"  file  " + name + b"\n")
         is_refused = bool(err) and err[0].startswith(own[:2])
         if err and err[0].startswith(own):

@@ -2,17 +2,15 @@
 """Refuse each growth in turn: run something once for each of its requests for memory, with that one refused.
 
     growths.py PROGRAM [TABLE..]    each command line of the tables of this folder, and not those of forms/
-    growths.py --tests TESTS [WORD..]
-                                    each test of a crate's built tests, crates/NAME/out/NAME_tests, or each
-                                    whose name has one of the words; but for those of fronts, which make one call for
-                                    thousands of inputs that other tests have as a whole
+    growths.py --tests TESTS        each test of a crate's built tests, crates/NAME/out/NAME_tests, but for those of fronts,
+                                    which make one call for thousands of inputs that other tests have as a whole
 
 A command line has to answer as it does with enough memory, or with out of memory: status 4, nothing on standard output,
 and one line on standard error. An explanation may end with a line that says out of memory, after an unchanged first
 line. If the growth was for the path of a file that was to be opened, the line is that this file can't be read, and with -o
-it may be that the write failed. A test has to pass with enough memory. With a growth refused it has to pass too, or to fail by out of memory: by the error that a
-call answered, and not by an answer that differs. trouble.c, which is compiled by $CC or cc, refuses, and serve.c
-begins the runs.
+it may be that the write failed. A test has to pass with enough memory. With a growth refused it has to pass too, or to fail
+by out of memory: by the error that a call answered, and not by an answer that differs. trouble.c, which is compiled by $CC
+or cc, refuses, and serve.c begins the runs.
 """
 import collections
 import itertools
@@ -108,13 +106,11 @@ def passes_or_wants(outcome):
     return outcome.status == 0 or (outcome.status in (FAILED, ABORTED) and WANT.search(outcome.stderr))
 
 
-def shares_of_tests(tests, words):
-    """The shares of all built tests but those of fronts, or of each whose name has one of the words: its name, and which growth
-    is refused first."""
+def shares_of_tests(tests):
+    """The shares of all built tests but those of fronts: its name, and which growth is refused first."""
     told = subprocess.run([tests, "--list"], stdout=subprocess.PIPE, text=True, check=True).stdout
-    names = re.findall(r"^(.*): test$", told, re.MULTILINE)
-    those = [name for name in names if (any(word in name for word in words) if words else not name.startswith("fronts::"))]
-    return [(name, first) for name in those for first in range(1, SHARES + 1)]
+    names = re.findall(r"^(?!fronts::)(.*): test$", told, re.MULTILINE)
+    return [(name, first) for name in names for first in range(1, SHARES + 1)]
 
 
 def built_tests(served, shares):
@@ -130,8 +126,8 @@ def built_tests(served, shares):
 
 def main():
     is_of_tests = sys.argv[1] == "--tests"
-    program, *words = sys.argv[1 + is_of_tests :]
-    those = shares_of_tests(os.path.abspath(program), words) if is_of_tests else listed(words)
+    program, *tables = sys.argv[1 + is_of_tests :]
+    those = shares_of_tests(os.path.abspath(program)) if is_of_tests else listed(tables)
     find = built_tests if is_of_tests else command_lines
     runs, _, growths, wrong = shared.served_over_processors(find, those, program, "serve.c", "trouble.c")
     runs = runs // SHARES if is_of_tests else runs

@@ -159,10 +159,7 @@ static bool is_filled(const uint8_t *bytes, size_t length, int with)
     return true;
 }
 
-static bool are_same(answer a, answer b)
-{
-    return a.code == b.code && a.told.place == b.told.place && a.told.length == b.told.length;
-}
+static bool are_same(answer a, answer b) { return a.code == b.code && a.told.place == b.told.place && a.told.length == b.told.length; }
 
 /* The answer, and its bytes in a buffer that they fill. */
 static answer filled(const call *asked, uint8_t **out)
@@ -246,10 +243,7 @@ static void *answered_on_thread(void *given)
     return NULL;
 }
 
-static void *nothing_on_thread(void *given)
-{
-    return given;
-}
+static void *nothing_on_thread(void *given) { return given; }
 
 static size_t stack_of(void *(*body)(void *), run *given)
 {

@@ -4,13 +4,11 @@
     library.py PROGRAM FOLDER
 
 FOLDER has libcborn.a and python/cborn, the package. An answer of the library is written as the program would print it, and
-compared with the table and with what the program prints. The number of a fault is compared with the program's words, by
-way of include/cborn.h, docs/FORMATS.md and the bindings. Each number has to occur. Nests of arrays, maps and tags under
-the least, the usual and the largest limit are tried, too. `python -m cborn` has to do the command lines of the tables as
-the program does, but reads one file and has no -o. The explanation of each input that is refused or isn't deterministic is
-what the program writes with --explain after its first line. Short inputs of bytes are cut into their items. library.c, which
-is compiled by $CC or cc, says what else is tested. Command lines that are no call (with files that fail, or for help) are
-counted.
+compared with the table and with what the program prints, and so is each explanation. The number of a fault is compared with
+the program's words, by way of include/cborn.h, docs/FORMATS.md and the bindings. Each number has to occur. Nests under the
+least, the usual and the largest limit are tried, too, and short inputs of bytes are cut into their items. `python -m cborn`
+has to do the command lines of the tables as the program does, but reads one file and has no -o. library.c, which is compiled
+by $CC or cc, says what else is tested. Command lines that are no call (with files that fail, or for help) are counted.
 """
 import argparse
 import collections
@@ -51,11 +49,6 @@ WORDS = {
 def words_in(name):
     path, row = WORDS[name]
     return {int(n, 16): words for n, words in re.findall(row, (TOP / path).read_text(), re.MULTILINE)}
-
-
-def stack_of(path):
-    """The figures of the stack in a file."""
-    return [it.replace("(", "").replace(")", "") for it in re.findall(r"\d+ \+ \d+ \* \(?depth\)?", path.read_text())]
 
 
 class Options(argparse.ArgumentParser):
@@ -188,10 +181,6 @@ class InPython:
         import cborn
 
         self.cborn = cborn
-
-    def words(self):
-        """The words of each number of a fault."""
-        return {reason.number: str(reason) for reason in self.cborn.Reason if reason.number > 0xFF}
 
     def called(self, asked, inputs):
         cborn, source, order = self.cborn, KINDS[asked.source], ORDERS[asked.order]
@@ -416,15 +405,17 @@ def tables_of_words(met, callers):
     beside = {number: in_c.pop(number, None) for number in range(0x100)}
     if {n: words for n, words in beside.items() if words} != {OUT_OF_MEMORY: "out of memory", TOO_LONG: "input too long"}:
         yield f"cborn_words has other words for what is no fault of the content: {beside}"
-    tables = {**{name: words_in(name) for name in WORDS}, "python": callers["Python"].words(), "cborn_words": in_c}
+    in_python = {reason.number: str(reason) for reason in callers["Python"].cborn.Reason if reason.number > 0xFF}
+    tables = {**{name: words_in(name) for name in WORDS}, "python": in_python, "cborn_words": in_c}
     for name, words in tables.items():
         for number in sorted({*words, *tables["header"]}):
             if words.get(number) != tables["header"].get(number):
                 yield f"{number:#x} is {words.get(number)!r} in the table of {name}, {tables['header'].get(number)!r} in the header"
     for number in sorted(set(tables["header"]) - met):
         yield f"no command line has the fault {number:#x}"
-    figures = {name: stack_of(TOP / name) for name in ("include/cborn.h", "bindings/rust/src/calls.rs", "bindings/python/cborn/__init__.py")}
-    if any(len(set(found)) != 1 for found in figures.values()) or len(set(itertools.chain(*figures.values()))) != 1:
+    files = ("include/cborn.h", "bindings/rust/src/calls.rs", "bindings/python/cborn/__init__.py")
+    figures = {name: set(re.findall(r"(\d+) \+ (\d+) \* \(?depth\)?", (TOP / name).read_text())) for name in files}
+    if any(len(found) != 1 for found in figures.values()) or len(set().union(*figures.values())) != 1:
         yield f"the stack hasn't one figure in each: {figures}"
 
 

@@ -9,7 +9,6 @@ command that answers wrongly with a stack of KILOBYTES has failed.
 import collections
 import concurrent.futures
 import functools
-import itertools
 import os
 import pathlib
 import resource
@@ -117,7 +116,7 @@ def main():
     program, allowed = str(pathlib.Path(sys.argv[1]).resolve()), int(sys.argv[2])
     tried = list(cases())
     with concurrent.futures.ProcessPoolExecutor(os.cpu_count()) as pool:
-        needs = list(pool.map(least_stack, itertools.repeat(program), tried))
+        needs = list(pool.map(functools.partial(least_stack, program), tried))
     failed = 0
     for case, need in zip(tried, needs):
         is_within = need is not None and need <= allowed

@@ -188,8 +188,7 @@ def main():
         for name, data in FILES.items():
             pathlib.Path(folder, name).write_bytes(data)
         wrong = [*wrong_runs(program, folder), *wrong_outputs(program, folder)]
-    print(*wrong, sep="\n", end="\n" if wrong else "")
-    print(f"{len(CASES) + len(OUTPUTS)} runs with a terminal and without passed, {len(wrong)} lines of what is wrong")
+    print(*wrong, f"{len(CASES) + len(OUTPUTS)} runs with a terminal and without passed, {len(wrong)} lines of what is wrong", sep="\n")
     return 1 if wrong else 0
 
 

@@ -56,10 +56,7 @@ __attribute__((destructor)) static void end(void)
         say(line, snprintf(line, sizeof line, "calls %ld\n", calls));
 }
 
-static int is_kind(const char *word)
-{
-    return strcmp(kind, word) == 0;
-}
+static int is_kind(const char *word) { return strcmp(kind, word) == 0; }
 
 /* Whether this call is the one, which it then tells. */
 static int is_troubled(const char *name, int fd)
@@ -90,15 +87,11 @@ static int is_refused(size_t size)
     return 1;
 }
 
-void *malloc(size_t size)
-{
-    return is_refused(size) ? NULL : __libc_malloc(size);
-}
+void *malloc(size_t size) { return is_refused(size) ? NULL : __libc_malloc(size); }
+void *realloc(void *old, size_t size) { return is_refused(size) ? NULL : __libc_realloc(old, size); }
 
-void *realloc(void *old, size_t size)
-{
-    return is_refused(size) ? NULL : __libc_realloc(old, size);
-}
+/* Whether this call has an error. */
+static int is_failed(const char *name, int fd, int code) { return is_troubled(name, fd) && is_error(code); }
 
 int open(const char *path, int flags, ...)
 {
@@ -107,36 +100,25 @@ int open(const char *path, int flags, ...)
     int mode = flags & O_CREAT ? va_arg(rest, int) : 0;
     va_end(rest);
     int is_made = flags & O_CREAT;
-    int has_failed = is_troubled(is_made ? "create" : "open", 0) && is_error(EMFILE);
+    int has_failed = is_failed(is_made ? "create" : "open", 0, EMFILE);
     tried += !is_made;
     int fd = has_failed ? -1 : (int)syscall(SYS_openat, AT_FDCWD, path, flags, mode);
     opened += fd >= 0;
     return fd;
 }
 
-int fsync(int fd)
-{
-    return is_troubled("fsync", fd) && is_error(EIO) ? -1 : (int)syscall(SYS_fsync, fd);
-}
-
-int fchmod(int fd, mode_t mode)
-{
-    return is_troubled("fchmod", fd) && is_error(EPERM) ? -1 : (int)syscall(SYS_fchmod, fd, mode);
-}
-
-int rename(const char *from, const char *to)
-{
-    return is_troubled("rename", 0) && is_error(EACCES) ? -1 : (int)syscall(SYS_rename, from, to);
-}
+int fsync(int fd) { return is_failed("fsync", fd, EIO) ? -1 : (int)syscall(SYS_fsync, fd); }
+int fchmod(int fd, mode_t mode) { return is_failed("fchmod", fd, EPERM) ? -1 : (int)syscall(SYS_fchmod, fd, mode); }
+int rename(const char *from, const char *to) { return is_failed("rename", 0, EACCES) ? -1 : (int)syscall(SYS_rename, from, to); }
 
 ssize_t readlink(const char *path, char *text, size_t size)
 {
-    return is_troubled("readlink", 0) && is_error(EACCES) ? -1 : syscall(SYS_readlink, path, text, size);
+    return is_failed("readlink", 0, EACCES) ? -1 : syscall(SYS_readlink, path, text, size);
 }
 
 int statx(int fd, const char *path, int flags, unsigned mask, struct statx *found)
 {
-    return is_troubled("statx", 0) && is_error(EACCES) ? -1 : (int)syscall(SYS_statx, fd, path, flags, mask, found);
+    return is_failed("statx", 0, EACCES) ? -1 : (int)syscall(SYS_statx, fd, path, flags, mask, found);
 }
 
 ssize_t read(int fd, void *buffer, size_t size)
