@@ -63,8 +63,9 @@ def string(rng):
 
 def nest(rng):
     inner = head(0, rng.getrandbits(16))
+    levels = ((b"\x82", b"\x01"), (b"\x9f", b"\xff"), (b"\xa1\x01", b""), (b"\xbf\x61a", b"\xff"))
     for _ in range(97):
-        opening, closing = ((b"\x82", b"\x01"), (b"\x9f", b"\xff"), (b"\xa1\x01", b""), (b"\xbf\x61a", b"\xff"))[rng.randrange(4)]
+        opening, closing = levels[rng.randrange(4)]
         inner = opening + inner + closing
     return inner
 

@@ -163,7 +163,7 @@ def failed_recipes(root, environment):
 
 
 def untold(root):
-    """The words of faults, as docs/FORMATS.md numbers them, that the man page lacks: there they are in italics in two chapters."""
+    """The words of faults, as docs/FORMATS.md numbers them, that aren't in italics in the two chapters of the man page."""
     page = (root / "man/cborn.1").read_text().replace("\\-", "-")
     chapters = re.findall(r"^\.SH (?:FAULTS|DEFECTS)\n(.*?)^(?=\.SH )", page, re.MULTILINE | re.DOTALL)
     lines = re.findall(r"^\.(I|IR) (.*)", "".join(chapters), re.MULTILINE)

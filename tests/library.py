@@ -38,7 +38,7 @@ OF_PROGRAM = ("several.table", "output.table")
 WRAPPED = "-Wl,--wrap=malloc,--wrap=realloc,--wrap=free"
 
 
-# the words of each number of a fault: the comment after it in the header, a row of the page up to what explains it, and those in Rust
+# the words of each number of a fault: the comment in the header, a row of the page up to what explains it, and those in Rust
 WORDS = {
     "header": ("include/cborn.h", r"= (0x[0-9a-f]{3}),\s*/\* (.*?) \*/"),
     "page": ("docs/FORMATS.md", r"^\| `(0x[0-9a-f]{3})` \| ([^|:,]+?)(?:[:,][^|]*)? \|"),

@@ -109,8 +109,8 @@ def tried(find, library, program, those):
 
 
 def served_over_processors(find, runs, program, *sources, at_once=1):
-    """The sums and lines of `tried` for so many runs at once, by a library of these C files of this folder. `find(served, some)` yields of each its
-    name, how many attempts it was, and the lines of what is wrong."""
+    """The sums and lines of `tried` for so many runs at once, by a library of these C files of this folder. `find(served, some)`
+    yields of each its name, how many attempts it was, and the lines of what is wrong."""
     with tempfile.TemporaryDirectory() as folder:
         made = compiled(f"{folder}/library.so", "-O2", "-shared", "-fPIC", *(HERE / source for source in sources), "-ldl")
         return over_processors(tried, runs, find, made, str(pathlib.Path(program).resolve()), at_once=at_once)

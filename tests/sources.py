@@ -1,5 +1,5 @@
 #!/usr/bin/env python3
-"""Fails where the sources cite what serves the proofs of another crate alone, or don't keep to the words of docs/ARCHITECTURE.md.
+"""Fails where a source cites what serves another crate's proofs alone, or leaves the words of docs/ARCHITECTURE.md.
 
 Contracts (src/) and definitions (specs/) may cite the definitions of crates below, and the devices that these share
 (specs/shared/), but neither their proofs nor their other devices (specs/devices/). Proofs may cite all of them.
@@ -15,7 +15,7 @@ CITED = re.compile(r"Rattle\.(cborn_\w+)\.(?:proofs|specs\.devices)\b[\w.]*")
 NAME = re.compile(r"[A-Za-z_]\w*")
 PART = re.compile(r"[A-Z]+(?![a-z])|[A-Z]?[a-z]+")
 NEVER = re.compile(r"\(never ((?:`\w+`(?:, )?)+)((?:, but in C)?)\)")
-# what isn't read for words: the texts that a program prints, the prover's own word for a fact about a variable, and what is told apart
+# what isn't read for words: texts that a program prints, the prover's word for a fact about a variable, what is told apart
 UNREAD = re.compile(r'b?"(?:\\.|[^"\\])*"|\btold(?:-| apart)')
 
 

@@ -22,7 +22,7 @@ LEVELS = 1024
 # The greatest stack that is tried, and how closely the least one is found.
 MOST, STEP = 16 * 1024, 16
 
-# What opens and closes a level in bytes, the nest that is its deterministic encoding, and what opens and closes a level in notation.
+# What opens and closes a level in bytes, the nest that is its deterministic encoding, and the same of a level in notation.
 Nest = collections.namedtuple("Nest", "name opening closing shortest text_opening text_closing")
 Case = collections.namedtuple("Case", "nest command inputs output status complaint", defaults=[0, b""])
 NESTS = [
@@ -47,7 +47,7 @@ def noted(nest):
 
 
 def around_faults(nest):
-    """`check` of levels that are deterministic around an integer that isn't, and what refuses levels around a text that isn't UTF-8."""
+    """`check` of levels that are deterministic around an integer that isn't, and what refuses levels around no UTF-8."""
     place = len(bytes.fromhex(nest.opening)) * LEVELS
     if nest.shortest == nest.name:
         yield Case(f"{nest.name} around a long head", "check", [nested(nest, "1801")], f"offset {place}: long head\n".encode(), 1)

@@ -188,7 +188,8 @@ def main():
         for name, data in FILES.items():
             pathlib.Path(folder, name).write_bytes(data)
         wrong = [*wrong_runs(program, folder), *wrong_outputs(program, folder)]
-    print(*wrong, f"{len(CASES) + len(OUTPUTS)} runs with a terminal and without passed, {len(wrong)} lines of what is wrong", sep="\n")
+    summary = f"{len(CASES) + len(OUTPUTS)} runs with a terminal and without passed, {len(wrong)} lines of what is wrong"
+    print(*wrong, summary, sep="\n")
     return 1 if wrong else 0
 
 
