@@ -84,12 +84,11 @@ check-quick:
 
 layout:
 	@find crates -name out -prune -o \( -name '*.rt' -o -name '*.antt' \) -print0 | xargs -0 '$(dir $(shell rt doc))bin/rattle' fmt --check
-	python3 tests/citations.py
+	python3 tests/sources.py
 	python3 tests/vectors.py --check
 	python3 tests/promises.py --check
 	python3 tests/edits.py
 	python3 tests/made_up.py
-	python3 tests/glossary.py
 	python3 tests/words.py
 
 tables: build

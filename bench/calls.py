@@ -1,10 +1,9 @@
 #!/usr/bin/env python3
 """Time calls of the library from C, Rust, Go and Python, beside serde_cbor and cbor2: nanoseconds a call, best of some.
 
-    calls.py BUILD_FOLDER [NAME=FOLDER..]
+    calls.py BUILD_FOLDER
 
-BUILD_FOLDER has libcborn.a and python/cborn (`make python`). A further FOLDER has another package cborn, of an earlier
-version say, which is timed as NAME. The inputs are the array of 7 bytes of the README, a map
+BUILD_FOLDER has libcborn.a and python/cborn (`make python`). The inputs are the array of 7 bytes of the README, a map
 of ten pairs whose keys fall, of 101 bytes, and arrays of ten and of a hundred such maps. Go, serde_cbor (from
 /usr/share/cargo/registry, where Debian's librust-serde-cbor-dev puts it) and cbor2 are left out where they aren't there.
 serde_cbor's Value drops duplicate keys and tags, and cbor2's canonical form orders keys by length first, so they do less, and
@@ -21,13 +20,11 @@ import timeit
 
 HERE = pathlib.Path(__file__).resolve().parent
 REGISTRY = pathlib.Path("/usr/share/cargo/registry")
-CARGO = """[package]
+CARGO = """bin = [{{ name = "calls", path = "{main}" }}]
+[package]
 name = "calls"
 version = "0.0.0"
 edition = "2021"
-[[bin]]
-name = "calls"
-path = "{main}"
 [dependencies]
 cborn = {{ path = "{crate}" }}
 serde_cbor = "0.11"
@@ -64,32 +61,30 @@ def timed(call, names, size):
     return 1e9 * min(timeit.Timer(call, globals=names).repeat(2000, rounds)) / rounds
 
 
-def in_python(name, data):
-    """Lines of the package cborn that is found first, and of cbor2."""
+def in_python(build, names):
+    """Lines of the package cborn, and of cbor2."""
+    sys.path.insert(0, f"{build}/python")
     import cborn
 
-    for call, text in CALLS.items():
-        if hasattr(cborn, call):
-            yield f"{name}|{call}|{len(data)}|{timed(text, {**vars(cborn), 'data': data}, len(data)):.0f}"
-    if importlib.util.find_spec("cbor2"):
-        import cbor2
+    for data in (pathlib.Path(name).read_bytes() for name in names):
+        for call, text in CALLS.items():
+            yield f"Python|{call}|{len(data)}|{timed(text, {**vars(cborn), 'data': data}, len(data)):.0f}"
+        if importlib.util.find_spec("cbor2"):
+            import cbor2
 
-        call = "dumps(loads(data), canonical=True)"
-        yield f"cbor2|{call}|{len(data)}|{timed(call, {**vars(cbor2), 'data': data}, len(data)):.0f}"
+            call = "dumps(loads(data), canonical=True)"
+            yield f"cbor2|{call}|{len(data)}|{timed(call, {**vars(cbor2), 'data': data}, len(data)):.0f}"
 
 
-def of_package(name, folder, inputs):
-    """The lines of a package, in a process of its own."""
-    settings = {**os.environ, "PYTHONPATH": os.pathsep.join([folder, *filter(None, [os.environ.get("PYTHONPATH")])])}
-    command = [sys.executable, __file__, "--package", name, *inputs]
-    return subprocess.run(command, env=settings, check=True, capture_output=True, text=True).stdout.splitlines()
+def lines_of(*command, **how):
+    """What a command prints."""
+    return subprocess.run(command, check=True, capture_output=True, text=True, **how).stdout.splitlines()
 
 
 def in_c(build, folder, names):
-    program = f"{folder}/calls"
-    flags = ["-O2", f"-I{HERE.parent}/include", str(HERE / "calls.c"), f"{build}/libcborn.a"]
-    subprocess.run([os.environ.get("CC", "cc"), *flags, "-o", program], check=True)
-    return subprocess.run([program, *names], check=True, capture_output=True, text=True).stdout.splitlines()
+    program, sources = f"{folder}/calls", [str(HERE / "calls.c"), f"{build}/libcborn.a"]
+    subprocess.run([os.environ.get("CC", "cc"), "-O2", f"-I{HERE.parent}/include", *sources, "-o", program], check=True)
+    return lines_of(program, *names)
 
 
 def in_rust(build, folder, names):
@@ -100,8 +95,7 @@ def in_rust(build, folder, names):
     (place / ".cargo/config.toml").write_text(CONFIG.format(registry=REGISTRY))
     (place / "Cargo.toml").write_text(CARGO.format(main=HERE / "calls.rs", crate=HERE.parent / "bindings/rust"))
     settings = {**os.environ, "CBORN_LIBRARY_FOLDER": build}
-    command = ["cargo", "run", "--release", "--offline", "--quiet", "--", *names]
-    return subprocess.run(command, cwd=place, env=settings, check=True, capture_output=True, text=True).stdout.splitlines()
+    return lines_of("cargo", "run", "--release", "--offline", "--quiet", "--", *names, cwd=place, env=settings)
 
 
 def in_go(build, folder, names):
@@ -109,25 +103,17 @@ def in_go(build, folder, names):
         return ["Go|left out: no go|0|0"]
     flags = {"CGO_CFLAGS": f"-O2 -I{HERE.parent}/include", "CGO_LDFLAGS": f"{build}/libcborn.a"}
     settings = {**os.environ, **flags, "GO111MODULE": "off", "GOCACHE": f"{folder}/go"}
-    command = ["go", "run", str(HERE / "calls.go"), *names]
-    return subprocess.run(command, env=settings, check=True, capture_output=True, text=True).stdout.splitlines()
+    return lines_of("go", "run", str(HERE / "calls.go"), *names, env=settings)
 
 
 def main():
-    if sys.argv[1] == "--package":
-        for name in sys.argv[3:]:
-            print(*in_python(sys.argv[2], pathlib.Path(name).read_bytes()), sep="\n")
-        return
     build = str(pathlib.Path(sys.argv[1]).resolve())
-    packages = {"Python": f"{build}/python", **dict(word.split("=", 1) for word in sys.argv[2:])}
     with tempfile.TemporaryDirectory() as folder:
-        names = []
-        for data in inputs():
-            names.append(f"{folder}/{len(data)}")
-            pathlib.Path(names[-1]).write_bytes(data)
-        lines = in_c(build, folder, names) + in_rust(build, folder, names) + in_go(build, folder, names)
-        for name, place in packages.items():
-            lines += of_package(name, os.path.abspath(place), names)
+        names = [f"{folder}/{len(data)}" for data in inputs()]
+        for name, data in zip(names, inputs()):
+            pathlib.Path(name).write_bytes(data)
+        lines = [line for timed_in in (in_c, in_rust, in_go) for line in timed_in(build, folder, names)]
+        lines += in_python(build, names)
     table = {}
     for line in lines:
         language, call, size, cost = line.split("|")

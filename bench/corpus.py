@@ -1,45 +1,21 @@
 #!/usr/bin/env python3
 """Make the files that the bench runs on.
 
-    corpus.py FOLDER [--scale F]
+    corpus.py FOLDER
 
-What they hold depends on the scale alone. Bytes, at scale 1:
-
-    integers.cbor   16 MB  one array of integers of mixed widths, a tenth of them wider than needed
-    records.cbor    16 MB  one array of records with 20 short text keys in random order
-    strings.cbor    32 MB  one array of long strings, some in chunks
-    nests.cbor       8 MB  one array of nests of 97 levels, about half of them of indefinite length
-    keys.cbor        2 MB  one map of 200,000 shuffled keys
-    tagged.cbor      6 MB  a sequence of 200,000 small tagged items
-
-Texts that are both JSON and diagnostic notation, 10 MB each:
-
-    integers.json          one array of integers of 1 to 15 digits
-    short.json             one array of items of one to five characters
-    records.json           one array of records with some 20 short text keys in random order
-    nests.json             one array of nests of 20 to 90 arrays
-    strings.json           one array of strings of 8,000 characters, a fifth of which have to be escaped
-
-Small inputs, of 7, 100 and 10,000 bytes: small-7.cbor, small-100.cbor, small-10000.cbor.
+What they hold is the same each time: BYTES as NAME.cbor, TEXTS as NAME.json, and small-N.cbor of each size of SMALL.
 """
-import argparse
 import json
 import pathlib
 import random
+import sys
+
+sys.path.append(str(pathlib.Path(__file__).resolve().parent.parent / "tests"))
+
+from reading import head
 
 SEED = 20240208
 MB = 1_000_000
-
-
-def head(major, n, least=0):
-    """The head of a major type, shortest or at least of the width `least` (0 to 4)."""
-    widths = ((24, 0), (1 << 8, 1), (1 << 16, 2), (1 << 32, 4), (1 << 64, 8))
-    for index, (bound, size) in enumerate(widths):
-        if n < bound and index >= least:
-            if size == 0:
-                return bytes([32 * major + n])
-            return bytes([32 * major + 23 + index]) + n.to_bytes(size, "big")
-    raise ValueError(n)
 
 
 def text(words):
@@ -63,7 +39,7 @@ def array(pieces):
 
 def integer(rng):
     n = rng.getrandbits(rng.choice((4, 8, 8, 14, 24, 32, 50, 64)))
-    return head(rng.choice((0, 0, 1)), n, rng.randrange(5) if rng.random() < 0.1 else 0)
+    return head(rng.choice((0, 0, 1)), n, (0, 1, 2, 4, 8)[rng.randrange(5) if rng.random() < 0.1 else 0])
 
 
 def record(rng):
@@ -87,16 +63,10 @@ def string(rng):
 
 def nest(rng):
     inner = head(0, rng.getrandbits(16))
+    levels = ((b"\x82", b"\x01"), (b"\x9f", b"\xff"), (b"\xa1\x01", b""), (b"\xbf\x61a", b"\xff"))
     for _ in range(97):
-        kind = rng.randrange(4)
-        if kind == 0:
-            inner = b"\x82" + inner + b"\x01"
-        elif kind == 1:
-            inner = b"\x9f" + inner + b"\xff"
-        elif kind == 2:
-            inner = b"\xa1\x01" + inner
-        else:
-            inner = b"\xbf\x61a" + inner + b"\xff"
+        opening, closing = levels[rng.randrange(4)]
+        inner = opening + inner + closing
     return inner
 
 
@@ -115,19 +85,6 @@ def tagged(rng, count):
     return b"".join(make(n) for n in range(count))
 
 
-def row(rng, size, make):
-    """An array of texts until they are of this size together."""
-    return ("[" + "".join(fill(size, lambda: make(rng) + ","))[:-1] + "]").encode()
-
-
-def written_integer(rng):
-    return str(rng.choice((1, 1, 1, -1)) * rng.randrange(1 << rng.randrange(1, 50)))
-
-
-def written_item(rng):
-    return rng.choice(("1", "22", '"a"', '"bcd"', "true", "[]", "{}", "[7]", "null"))
-
-
 def written_record(rng):
     word = lambda: "".join(rng.choices("abcdefghijklmnopqrstuvwxyz", k=rng.randint(3, 9)))
     names = list(dict.fromkeys(word() for _ in range(20)))
@@ -137,10 +94,6 @@ def written_record(rng):
 def written_nest(rng):
     depth = rng.randint(20, 90)
     return "[" * depth + str(rng.randrange(1000)) + "]" * depth
-
-
-def written_string(rng):
-    return json.dumps("".join(rng.choices('abc def,ghi"\\\n', k=400)) * 20)
 
 
 def small(rng, size):
@@ -155,40 +108,39 @@ def small(rng, size):
     return front + head(2, rest - width) + rng.randbytes(rest - width)
 
 
-def bytes_made(rng, name, scale):
-    sized = lambda size: int(size * scale)
-    if name == "keys":
-        return keys(rng, sized(200_000))
-    if name == "tagged":
-        return tagged(rng, sized(200_000))
-    make, size = {"integers": (integer, 16), "records": (record, 16), "strings": (string, 32), "nests": (nest, 8)}[name]
-    return array(fill(sized(size * MB), lambda: make(rng)))
-
-
-BYTES = ("integers", "records", "strings", "nests", "keys", "tagged")
+# bytes of one array, of one map, and of a sequence
+BYTES = {
+    "integers": lambda rng: array(fill(16 * MB, lambda: integer(rng))),  # of mixed widths, a tenth of them wider than needed
+    "records": lambda rng: array(fill(16 * MB, lambda: record(rng))),  # with 20 short text keys in random order
+    "strings": lambda rng: array(fill(32 * MB, lambda: string(rng))),  # long ones, some in chunks
+    "nests": lambda rng: array(fill(8 * MB, lambda: nest(rng))),  # of 97 levels, about half of them of indefinite length
+    "keys": lambda rng: keys(rng, 200_000),  # shuffled, 2 MB
+    "tagged": lambda rng: tagged(rng, 200_000),  # small items, 6 MB
+}
+# texts that are both JSON and diagnostic notation: one array of 10 MB each
 TEXTS = {
-    "integers": written_integer,
-    "short": written_item,
-    "records": written_record,
-    "nests": written_nest,
-    "strings": written_string,
+    "integers": lambda rng: str(rng.choice((1, 1, 1, -1)) * rng.randrange(1 << rng.randrange(1, 50))),  # of 1 to 15 digits
+    "short": lambda rng: rng.choice(("1", "22", '"a"', '"bcd"', "true", "[]", "{}", "[7]", "null")),
+    "records": written_record,  # with some 20 short text keys in random order
+    "nests": written_nest,  # of 20 to 90 arrays
+    # of 8,000 characters, a fifth of which have to be escaped
+    "strings": lambda rng: json.dumps("".join(rng.choices('abc def,ghi"\\\n', k=400)) * 20),
 }
 SMALL = (7, 100, 10_000)
 
 
 def main():
-    words = argparse.ArgumentParser(description=__doc__, formatter_class=argparse.RawDescriptionHelpFormatter)
-    words.add_argument("folder", type=pathlib.Path)
-    words.add_argument("--scale", type=float, default=1)
-    given = words.parse_args()
-    given.folder.mkdir(parents=True, exist_ok=True)
+    folder = pathlib.Path(sys.argv[1])
+    folder.mkdir(parents=True, exist_ok=True)
     seeded = lambda name: random.Random(f"{SEED}{name}")
-    for name in BYTES:
-        (given.folder / f"{name}.cbor").write_bytes(bytes_made(seeded(name), name, given.scale))
+    for name, make in BYTES.items():
+        (folder / f"{name}.cbor").write_bytes(make(seeded(name)))
     for name, make in TEXTS.items():
-        (given.folder / f"{name}.json").write_bytes(row(seeded(f"{name}.json"), int(10 * MB * given.scale), make))
+        rng = seeded(f"{name}.json")
+        items = "".join(fill(10 * MB, lambda: make(rng) + ","))
+        (folder / f"{name}.json").write_text(f"[{items[:-1]}]", encoding="utf-8")
     for size in SMALL:
-        (given.folder / f"small-{size}.cbor").write_bytes(small(seeded(size), size))
+        (folder / f"small-{size}.cbor").write_bytes(small(seeded(size), size))
 
 
 if __name__ == "__main__":

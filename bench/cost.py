@@ -1,11 +1,11 @@
 #!/usr/bin/env python3
 """What hostile bytes and texts cost: peak memory over input and output, and time at two sizes.
 
-    cost.py PROGRAM [--mb N] [--most RATIO] [--only WORDS] [--cpu] [--memory]
+    cost.py PROGRAM [--mb N] [--only WORDS] [--cpu] [--memory]
 
 Each shape, of bytes and of texts, is made at a quarter and at the whole of N MB (16). For each command: the peak memory,
 less 3 MB that the process itself has, as a multiple of input and output together; MB of input a second; and the status.
-Ends with status 1 where a multiple is above RATIO (2.5; more for what MORE names),
+Ends with status 1 where a multiple is above MOST (2.5; more for what MORE names),
 where time grows by more than 1.6 times as much as the input, or where a run was ended. With --memory no time is judged.
 """
 import argparse
@@ -15,43 +15,30 @@ import sys
 import tempfile
 
 import measuring
-from corpus import head
+from corpus import MB, head
 
-MB = 1_000_000
 OWN = 3_000_000
 GREAT_MAPS = ("map of integers", "map, repeated key last")
 # what is refused at its end, when `show` has written the text of what comes before
 REFUSED_LATE = (
-    "flat, bad text last",
-    "cut array",
-    "array with no break",
-    "flat, too deep last",
-    "keys in keys, bad text last",
-    "keys in keys, long heads, bad text after",
-    "map out of order, bad text after",
-    "great pair out of order, bad text after",
-    "text in chunks, bad one last",
+    "flat, bad text last", "cut array", "array with no break", "flat, too deep last", "keys in keys, bad text last",
+    "keys in keys, long heads, bad text after", "map out of order, bad text after",
+    "great pair out of order, bad text after", "text in chunks, bad one last",
 )
 # maps whose pairs are copied while they are arranged, where an input is judged
 ARRANGED = (
-    "map out of order, bad text after",
-    "key is a map out of order",
-    "great pair out of order, bad text after",
-    "key is a map with a great pair",
+    "map out of order, bad text after", "key is a map out of order",
+    "great pair out of order, bad text after", "key is a map with a great pair",
 )
-# what is known to take more than RATIO
+MOST = 2.5
+# what is known to take more than MOST
 MORE = {
     **{(name, command): 3 for name in ARRANGED for command in ("normalise", "check", "to notation")},
     **{(name, command): 6 for name in GREAT_MAPS for command in ("normalise", "show", "to notation")},
     **{(name, "check"): 7.5 for name in GREAT_MAPS},
     **{(name, "show"): 5 for name in REFUSED_LATE},
 }
-COMMANDS = {
-    "normalise": ["normalise"],
-    "check": ["check"],
-    "show": ["show"],
-    "to notation": ["normalise", "--to", "notation"],
-}
+COMMANDS = {"normalise": ["normalise"], "check": ["check"], "show": ["show"], "to notation": ["normalise", "--to", "notation"]}
 TEXT_COMMANDS = {
     "normalise": ["normalise", "--from", "notation"],
     "profile 2": ["normalise", "--from", "notation-2"],
@@ -142,7 +129,7 @@ def cost(run, size):
 def excess(name, command, small, great, given):
     """What is too much in two runs, each with its input's size."""
     (first, quarter), (last, whole) = small, great
-    most = max(MORE.get((name, command), 0), given.most)
+    most = max(MORE.get((name, command), 0), MOST)
     if last.status not in (0, 1, 2):
         yield f"{name}: {command} ended with status {last.status}"
     if cost(last, whole) > most:
@@ -158,17 +145,16 @@ def main():
     words = argparse.ArgumentParser(description=__doc__, formatter_class=argparse.RawDescriptionHelpFormatter)
     words.add_argument("program", type=pathlib.Path)
     words.add_argument("--mb", type=float, default=16)
-    words.add_argument("--most", type=float, default=2.5)
     words.add_argument("--only", default="")
     words.add_argument("--cpu", action="store_true")
     words.add_argument("--memory", action="store_true")
     given = words.parse_args()
     program = str(given.program.resolve())
-    if measuring.needs_time():
+    if measuring.needs_time() and given.memory:
         # the gate goes on, and its last line says what it left out
-        if given.memory:
-            print(measuring.needs_time())
-            return 0
+        print(measuring.needs_time())
+        return
+    if measuring.needs_time():
         sys.exit(measuring.needs_time())
     bad = []
     with tempfile.TemporaryDirectory() as folder:

@@ -1,23 +1,22 @@
 """Inputs of one kind at any size, for how time and memory grow."""
 import array
+import itertools
 import random
 
 import corpus
 
-KINDS = ("integers", "records", "strings", "keys")
+ITEMS = {"integers": corpus.integer, "records": corpus.record, "strings": corpus.string}
+KINDS = (*ITEMS, "keys")
 BLOCK = 2_000_000
 
 
 def repeated(kind, megabytes, path):
     """One array whose items are those of a megabyte again and again."""
     rng = random.Random(f"{corpus.SEED}{kind} grown")
-    make = {"integers": corpus.integer, "records": corpus.record, "strings": corpus.string}[kind]
-    pieces = corpus.fill(corpus.MB, lambda: make(rng))
-    block = b"".join(pieces)
+    pieces = corpus.fill(corpus.MB, lambda: ITEMS[kind](rng))
     with open(path, "wb") as file:
         file.write(corpus.head(4, megabytes * len(pieces)))
-        for _ in range(megabytes):
-            file.write(block)
+        file.writelines(itertools.repeat(b"".join(pieces), megabytes))
 
 
 def keyed(megabytes, path):

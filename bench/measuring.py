@@ -1,5 +1,6 @@
 """One run of a program: how long it takes, and how much memory it has at most."""
 import dataclasses
+import functools
 import hashlib
 import os
 import pathlib
@@ -41,68 +42,51 @@ def digest(path):
 
 
 def spawned(words, source, sink, memory, environment):
-    def bounded():
-        resource.setrlimit(resource.RLIMIT_AS, (memory, memory))
-
-    return subprocess.Popen(
-        words,
-        stdin=source,
-        stdout=sink,
-        stderr=subprocess.DEVNULL,
-        start_new_session=True,
-        preexec_fn=None if memory is None else bounded,
-        env=environment,
-    )
-
-
-def waited(child, limit):
-    """The status and what was used, the child's children included; after `limit` seconds all of them are ended."""
-    ended = threading.Timer(limit, lambda: os.killpg(child.pid, signal.SIGKILL))
-    ended.start()
-    _, status, used = os.wait4(child.pid, 0)
-    ended.cancel()
-    child.returncode = os.waitstatus_to_exitcode(status)
-    return child.returncode, used
+    bounded = None if memory is None else functools.partial(resource.setrlimit, resource.RLIMIT_AS, (memory, memory))
+    how = {"stdin": source, "stdout": sink, "stderr": subprocess.DEVNULL, "preexec_fn": bounded, "env": environment}
+    return subprocess.Popen(words, start_new_session=True, **how)
 
 
 def once(words, source, sink, limit=120, memory=None, environment=None):
-    """A run that reads the file `source` and writes the file `sink`. `memory` bounds its address space, in bytes."""
+    """A run that reads the file `source` and writes the file `sink`. `memory` bounds its address space, in bytes. After `limit`
+    seconds the child and its own children are ended."""
     with tempfile.NamedTemporaryFile("r") as told, open(source, "rb") as read, open(sink, "wb") as write:
         front = [TIME, "-q", "-f", "%M", "-o", told.name] if TIME else []
         start = time.perf_counter()
         child = spawned([*front, *words], read, write, memory, environment)
-        status, used = waited(child, limit)
+        ended = threading.Timer(limit, os.killpg, (child.pid, signal.SIGKILL))
+        ended.start()
+        _, status, used = os.wait4(child.pid, 0)
+        ended.cancel()
+        child.returncode = os.waitstatus_to_exitcode(status)
         wall = time.perf_counter() - start
         lines = told.read().split()
         peak = int(lines[-1]) * 1024 if lines else 0
-    return Run(wall, used.ru_utime + used.ru_stime, peak, status, pathlib.Path(sink).stat().st_size, digest(sink))
+    return Run(wall, used.ru_utime + used.ru_stime, peak, child.returncode, pathlib.Path(sink).stat().st_size, digest(sink))
 
 
 def best(words, source, sink, count, is_processor=False, **options):
     """Of so many runs the least time and the least peak; the first failed one instead, if there is one."""
     runs = []
     for _ in range(count):
-        run = once(words, source, sink, **options)
-        runs.append(run)
-        if run.status not in (0, 1) or run.wall > 20:
+        runs.append(once(words, source, sink, **options))
+        if runs[-1].status not in (0, 1):
+            return runs[-1]
+        if runs[-1].wall > 20:
             break
-    if runs[-1].status not in (0, 1):
-        return runs[-1]
     quickest = min(runs, key=lambda run: run.seconds(is_processor))
     return dataclasses.replace(quickest, peak=min(run.peak for run in runs))
 
 
 def many(words, source, count, environment=None):
     """Wall and processor time of each of so many processes, in seconds: the median of each."""
-    walls, processors = [], []
+    times = []
     with open(os.devnull, "wb") as sink:
         for _ in range(count):
             with open(source, "rb") as read:
                 start = time.perf_counter()
                 child = spawned(words, read, sink, None, environment)
                 _, _, used = os.wait4(child.pid, 0)
-                walls.append(time.perf_counter() - start)
+                times.append((time.perf_counter() - start, used.ru_utime + used.ru_stime))
                 child.returncode = 0
-                processors.append(used.ru_utime + used.ru_stime)
-    middle = count // 2
-    return sorted(walls)[middle], sorted(processors)[middle]
+    return tuple(sorted(each)[count // 2] for each in zip(*times))

@@ -18,13 +18,8 @@ REGISTRY = "/usr/share/cargo/registry"
 DEBIAN_PYTHON = "/usr/bin/python3"
 
 # where Debian's packages lie
-ENVIRONMENT = {
-    **os.environ,
-    "GO111MODULE": "off",
-    "GOFLAGS": "",
-    "GOPATH": "/usr/share/gocode",
-    "GOCACHE": str(BUILD / "go-cache"),
-}
+OF_GO = {"GO111MODULE": "off", "GOFLAGS": "", "GOPATH": "/usr/share/gocode", "GOCACHE": str(BUILD / "go-cache")}
+ENVIRONMENT = {**os.environ, **OF_GO}
 
 
 @dataclasses.dataclass
@@ -42,11 +37,6 @@ class Peer:
     texts: list | None = None
 
 
-def cargo(folder):
-    debian = ["--config", 'source.crates-io.replace-with="debian"', "--config", f'source.debian.directory="{REGISTRY}"']
-    return ["cargo", "build", "--release", "--offline", "--quiet", "--target-dir", str(BUILD / folder), *debian]
-
-
 def qt_flags():
     if not shutil.which("pkg-config"):
         return []
@@ -55,8 +45,10 @@ def qt_flags():
 
 
 def rust(name, folder, packages, about, **more):
+    debian = ["--config", 'source.crates-io.replace-with="debian"', "--config", f'source.debian.directory="{REGISTRY}"']
+    build = ["cargo", "build", "--release", "--offline", "--quiet", "--target-dir", str(BUILD / folder), *debian]
     driver = str(BUILD / folder / "release" / "driver")
-    return Peer(name, folder, cargo(folder), [driver], f"cargo, rustc, {packages}", about, **more)
+    return Peer(name, folder, build, [driver], f"cargo, rustc, {packages}", about, **more)
 
 
 BOTH = ("bytewise", "length-first")
@@ -67,40 +59,19 @@ def cbor2(name, about, **more):
     return Peer(name, "py-cbor2", [DEBIAN_PYTHON, "-c", "import cbor2"], driver, "python3, python3-cbor2", about, **more)
 
 
-def of_bytes():
-    """The peers that normalise, check and compare bytes."""
-    go = str(BUILD / "go-fxamacker")
+def all_of_them():
+    """The peers that normalise, check and compare bytes, then those that write notation, and those that read a text."""
+    go, qt = str(BUILD / "go-fxamacker"), str(BUILD / "cpp-qt")
+    serde = "librust-serde-cbor-dev, librust-serde-json-dev"
     about = "a loop of our own over its heads, with no tree: a yardstick, no product"
     return [
         rust("ciborium-ll, a loop", "rust-ciborium-ll", "librust-ciborium-ll-dev", about, orders=BOTH),
         rust("serde_cbor", "rust-serde-cbor", "librust-serde-cbor-dev", "a Value for each item", orders=BOTH[:1]),
-        Peer(
-            "fxamacker/cbor",
-            "go-fxamacker",
-            ["go", "build", "-o", go, "main.go"],
-            [go],
-            "golang-go, golang-github-fxamacker-cbor-dev",
-            "an interface{} for each item",
-            orders=BOTH,
-        ),
+        Peer("fxamacker/cbor", "go-fxamacker", ["go", "build", "-o", go, "main.go"], [go],
+             "golang-go, golang-github-fxamacker-cbor-dev", "an interface{} for each item", orders=BOTH),
         cbor2("cbor2", "a Python object for each item", orders=BOTH[1:]),
-    ]
-
-
-def of_notation():
-    """The peers that write notation, and those that read a text."""
-    qt = str(BUILD / "cpp-qt")
-    serde = "librust-serde-cbor-dev, librust-serde-json-dev"
-    return [
-        Peer(
-            "Qt",
-            "cpp-qt",
-            ["g++", "-O2", "-fPIC", "-o", qt, "driver.cpp", *qt_flags()],
-            [qt],
-            "g++, pkg-config, qtbase5-dev",
-            "a QCborValue for each item, printed",
-            shows=True,
-        ),
+        Peer("Qt", "cpp-qt", ["g++", "-O2", "-fPIC", "-o", qt, "driver.cpp", *qt_flags()], [qt],
+             "g++, pkg-config, qtbase5-dev", "a QCborValue for each item, printed", shows=True),
         rust("serde_json into serde_cbor", "rust-serde-json", serde, "a Value for all", texts=[]),
         cbor2("json into cbor2", "a Python object for all", texts=["from-json"]),
         Peer("jq -c", ".", ["jq", "-n", "1"], ["jq"], "jq", "JSON to JSON: what reading alone costs", texts=["-c", "."]),
@@ -119,7 +90,7 @@ def built(peer):
 
 def all_built():
     BUILD.mkdir(exist_ok=True)
-    return [peer for peer in [*of_bytes(), *of_notation()] if built(peer)]
+    return [peer for peer in all_of_them() if built(peer)]
 
 
 if __name__ == "__main__":

@@ -1,14 +1,13 @@
 #!/usr/bin/env python3
 """Measure the program beside its peers, or alone, and print the tables of docs/PERFORMANCE.md.
 
-    tables.py PROGRAM CORPUS_FOLDER [--only NAMES] [--alone] [--best N] [--cpu] [--into FILE]
-              [--most MB] [--memory GB] [--temporary FOLDER]
+    tables.py PROGRAM CORPUS_FOLDER [--only NAMES] [--alone] [--best N] [--cpu] [--into FILE] [--temporary FOLDER]
 
 NAMES are of: machine, normalise, check, compare, show, texts, small, growth; all but growth by default.
 A cell is MB of input a second and the peak memory in MB, best of N; with --cpu time is that of the processor, user and
 system, which says more on a machine that is shared. `~` stands at an output of other bytes than the program's.
 With --into each table takes the place of what stands between `<!-- begin NAME -->` and `<!-- end NAME -->`.
-`growth` makes inputs from 1 MB up to --most (1,000), and ends a run that wants more than --memory (8).
+`growth` makes inputs from 1 MB up to 1,000, and ends a run that wants more than 8 GB.
 """
 import argparse
 import dataclasses
@@ -27,19 +26,14 @@ import measuring
 import peers
 
 LENGTH_FIRST = "length-first"
-
-
-def rate(size, seconds):
-    speed = size / 1e6 / seconds
-    return f"{speed:.0f}" if speed >= 9.95 else f"{speed:.1f}"
+# what a cell says of a run that failed, by its status
+FAILED = {2: "refused", -9: "ended", 137: "ended"}
+# how much memory a run has at most where inputs grow
+MEMORY_GB = 8
 
 
 def megabytes(run, form=",.0f"):
     return format(run.peak / 1e6, form) if run.peak else "?"
-
-
-def failed(run):
-    return {2: "refused", -9: "ended", 137: "ended"}.get(run.status, f"status {run.status}")
 
 
 def table(corner, columns, rows):
@@ -65,9 +59,8 @@ class Bench:
         self.given = given
         self.program = str(given.program.resolve())
         self.peers = [] if given.alone else peers.all_built()
-        self.sink = pathlib.Path(folder, "out")
-        self.again = pathlib.Path(folder, "again")
         self.folder = pathlib.Path(folder)
+        self.sink, self.again = self.folder / "out", self.folder / "again"
         self.bytes = [given.corpus / f"{name}.cbor" for name in corpus.BYTES]
         self.texts = [given.corpus / f"{name}.json" for name in corpus.TEXTS]
 
@@ -77,12 +70,10 @@ class Bench:
 
     def cell(self, run, size, expected=None):
         if run.status != 0:
-            return failed(run)
+            return FAILED.get(run.status, f"status {run.status}")
         mark = "~" if expected is not None and run.digest != expected else ""
-        return f"{mark}{rate(size, run.seconds(self.given.cpu))}/{megabytes(run)}"
-
-    def heads(self, files):
-        return [f"{file.stem} {file.stat().st_size / 1e6:.0f} MB" for file in files]
+        rate = size / 1e6 / run.seconds(self.given.cpu)
+        return f"{mark}{rate:.{0 if rate >= 9.95 else 1}f}/{megabytes(run)}"
 
     def beside(self, corner, files, calls, sizes=None):
         """A row for each call, and how many times as quick as the quickest peer the first one is."""
@@ -99,7 +90,7 @@ class Bench:
                 print(corner, call.name, file.stem, cells[-1], file=sys.stderr)
             rows.append((call.name, cells))
         rows.append(("times the quickest peer", [ratio(calls, speeds, file) for file in files]))
-        return table(corner, self.heads(files), rows)
+        return table(corner, [f"{file.stem} {file.stat().st_size / 1e6:.0f} MB" for file in files], rows)
 
 
 def ratio(calls, speeds, file):
@@ -125,6 +116,10 @@ def plain(name, words, **more):
     return Call(name, lambda file: (words, file), **more)
 
 
+def own(bench, words):
+    return plain(f"`cborn {words}`", [bench.program, *words.split()])
+
+
 def of_normalise(bench):
     names = {"bytewise": "`cborn normalise`", LENGTH_FIRST: f"`cborn normalise --order {LENGTH_FIRST}`"}
     calls = [plain(name, [bench.program, "normalise", "--order", order]) for order, name in names.items()]
@@ -143,6 +138,11 @@ def normalised(bench, file, order):
     return made
 
 
+def first_orders(bench):
+    """The peers that sort keys, each with its first order."""
+    return [(peer, peer.orders[0]) for peer in bench.peers if peer.orders]
+
+
 def of_check(bench):
     def of_deterministic(name, words, order, **more):
         return Call(name, lambda file: (words, normalised(bench, file, order)), **more)
@@ -151,10 +151,9 @@ def of_check(bench):
         of_deterministic("`cborn check`", [bench.program, "check"], "bytewise"),
         of_deterministic("`cborn normalise`, of the same", [bench.program, "normalise"], "bytewise"),
     ]
-    for peer in bench.peers:
-        for order in peer.orders[:1]:
-            words = [*peer.call, "check", order]
-            calls.append(of_deterministic(f"{peer.name}, {order}", words, order, is_rival=True, same_as=calls[0].name))
+    for peer, order in first_orders(bench):
+        words = [*peer.call, "check", order]
+        calls.append(of_deterministic(f"{peer.name}, {order}", words, order, is_rival=True, same_as=calls[0].name))
     sizes = {file: normalised(bench, file, "bytewise").stat().st_size for file in bench.bytes}
     return bench.beside("check", bench.bytes, calls, sizes)
 
@@ -165,41 +164,30 @@ def of_compare(bench):
         return Call(name, lambda file: ([*words, *two(file)], pathlib.Path(os.devnull)), **more)
 
     calls = [of_two("`cborn compare`", [bench.program, "compare"])]
-    for peer in bench.peers:
-        for order in peer.orders[:1]:
-            calls.append(of_two(peer.name, [*peer.call, "compare", order], is_rival=True, same_as=calls[0].name))
+    for peer, order in first_orders(bench):
+        calls.append(of_two(peer.name, [*peer.call, "compare", order], is_rival=True, same_as=calls[0].name))
     sizes = {file: file.stat().st_size + normalised(bench, file, "bytewise").stat().st_size for file in bench.bytes}
     return bench.beside("compare", bench.bytes, calls, sizes)
 
 
 def of_show(bench):
-    calls = [
-        plain("`cborn show`", [bench.program, "show"]),
-        plain("`cborn normalise --to notation`", [bench.program, "normalise", "--to", "notation"]),
-        plain("`cborn show --to wire`", [bench.program, "show", "--to", "wire"]),
-    ]
+    calls = [own(bench, words) for words in ("show", "normalise --to notation", "show --to wire")]
     calls += [plain(peer.name, peer.call, is_rival=True) for peer in bench.peers if peer.shows]
     return bench.beside("show", bench.bytes, calls)
 
 
 def of_texts(bench):
-    calls = [
-        plain("`cborn normalise --from notation`", [bench.program, "normalise", "--from", "notation"]),
-        plain("`cborn show --from notation --to wire`", [bench.program, "show", "--from", "notation", "--to", "wire"]),
-    ]
-    for peer in bench.peers:
-        if peer.texts is not None:
-            is_rival = "cbor" in peer.name
-            words = [*peer.call, *peer.texts]
-            calls.append(plain(peer.name, words, is_rival=is_rival, same_as=calls[0].name if is_rival else None))
+    calls = [own(bench, words) for words in ("normalise --from notation", "show --from notation --to wire")]
+    for peer in (it for it in bench.peers if it.texts is not None):
+        more = {"is_rival": True, "same_as": calls[0].name} if "cbor" in peer.name else {}
+        calls.append(plain(peer.name, [*peer.call, *peer.texts], **more))
     return bench.beside("texts", bench.texts, calls)
 
 
 def of_small(bench):
     files = [bench.given.corpus / f"small-{size}.cbor" for size in corpus.SMALL]
     calls = [("a program that does nothing", ["/bin/true"])]
-    for command in ("normalise", "check", "show"):
-        calls.append((f"`cborn {command}`", [bench.program, command]))
+    calls += [(f"`cborn {command}`", [bench.program, command]) for command in ("normalise", "check", "show")]
     calls += [(f"{peer.name}, normalise", [*peer.call, "normalise"]) for peer in bench.peers if peer.orders]
     rows = []
     for name, call in calls:
@@ -213,8 +201,7 @@ def of_small(bench):
 
 def of_growth(bench):
     """Seconds and peak MB of each command at each size."""
-    sizes = [size for size in (1, 10, 100, 1000) if size <= bench.given.most]
-    quick = [peer for peer in bench.peers if peer.orders][:2]
+    sizes, quick = (1, 10, 100, 1000), [peer for peer, _ in first_orders(bench)[:2]]
     rows = []
     for kind in grown.KINDS:
         found = [growth_at(bench, kind, size, quick) for size in sizes]
@@ -227,33 +214,27 @@ def growth_at(bench, kind, size, quick):
     file = bench.folder / "grown.cbor"
     grown.make(kind, size, file)
     program, cells = bench.program, {}
-    calls = [("`cborn normalise`", [program, "normalise"], file, bench.again)]
-    calls.append(("`cborn check`, of what that wrote", [program, "check"], bench.again, bench.sink))
-    calls.append(("`cborn show`", [program, "show"], file, bench.sink))
-    calls += [(f"{peer.name}, normalise", [*peer.call, "normalise"], file, bench.sink) for peer in quick]
+    calls = [
+        ("`cborn normalise`", [program, "normalise"], file, bench.again),
+        ("`cborn check`, of what that wrote", [program, "check"], bench.again, bench.sink),
+        ("`cborn show`", [program, "show"], file, bench.sink),
+        *((f"{peer.name}, normalise", [*peer.call, "normalise"], file, bench.sink) for peer in quick),
+    ]
     for name, words, source, sink in calls:
         if not source.stat().st_size:  # what was to write it had no room
             cells[f"{kind}: {name}"] = ""
             continue
-        run = bench.run(words, source, sink, memory=int(bench.given.memory * 1e9), limit=600)
+        run = bench.run(words, source, sink, memory=MEMORY_GB * 10**9, limit=600)
         took = f"{run.seconds(bench.given.cpu):.2f}/{megabytes(run)}"
-        cells[f"{kind}: {name}"] = took if run.status == 0 else f"more than {bench.given.memory:g} GB"
+        cells[f"{kind}: {name}"] = took if run.status == 0 else f"more than {MEMORY_GB} GB"
         print("growth", kind, size, name, cells[f"{kind}: {name}"], file=sys.stderr)
     for made in (file, bench.again, bench.sink):
         made.unlink(missing_ok=True)
     return cells
 
 
-TABLES = {
-    "machine": of_machine,
-    "normalise": of_normalise,
-    "check": of_check,
-    "compare": of_compare,
-    "show": of_show,
-    "texts": of_texts,
-    "small": of_small,
-    "growth": of_growth,
-}
+MAKERS = (of_machine, of_normalise, of_check, of_compare, of_show, of_texts, of_small, of_growth)
+TABLES = {make.__name__.removeprefix("of_"): make for make in MAKERS}
 
 
 def put_into(path, name, lines):
@@ -275,8 +256,6 @@ def main():
     words.add_argument("--best", type=int, default=3)
     words.add_argument("--cpu", action="store_true")
     words.add_argument("--into", type=pathlib.Path)
-    words.add_argument("--most", type=int, default=1000)
-    words.add_argument("--memory", type=float, default=8)
     words.add_argument("--temporary", type=pathlib.Path)
     given = words.parse_args()
     if measuring.needs_time():

@@ -6,20 +6,20 @@
 The program reads its first input, and the examples of docs/LIBRARY.md in the archive are compiled and run, each in
 the languages whose tools are there; a line says which aren't. Each has to print what RFC 8949 makes of the input.
 """
-import importlib.util
 import itertools
 import os
 import pathlib
 import re
-import shutil
 import subprocess
 import sys
-import sysconfig
 import tempfile
 import textwrap
 
+sys.path.append(str(pathlib.Path(__file__).resolve().parent.parent / "tests"))
+
+from tools import JNA, is_there
+
 LOOSE, TIGHT = bytes([0x98, 2, 0x18, 1, 0x58, 1, 0x61]), bytes([0x82, 1, 0x41, 0x61])
-JNA = "/usr/share/java/jna.jar"
 
 
 class Archive:
@@ -120,14 +120,6 @@ WAYS = {
     "Go": (in_go, ("go",)),
     "Java": (in_java, ("javac", "java", JNA)),
 }
-
-
-def is_there(tool):
-    """Whether a command, a file, a header of Python or a module of Python is there."""
-    if tool in ("setuptools", "wheel"):
-        return importlib.util.find_spec(tool) is not None
-    path = os.path.join(sysconfig.get_path("include"), tool) if tool == "Python.h" else tool
-    return shutil.which(tool) is not None or os.path.isfile(path)
 
 
 def main():

@@ -6,6 +6,7 @@ From the clauses of these calls and laws, of the traits that they name and from 
     python3 tests/believed.py           a table of files, and the sums; fails if README.md or docs/DEFINITIONS.md says others, or a name is lost
     python3 tests/believed.py -v        each declaration too
 """
+import collections
 import re
 import shutil
 import sys
@@ -78,11 +79,7 @@ def parts_of(name):
 def imports(lines):
     """Names, and names of whole modules, that `use` lines bring in."""
     names, modules = {}, {}
-    for line in lines:
-        found = USE.match(line)
-        if not found:
-            continue
-        path, listed, alias = found.groups()
+    for path, listed, alias in (found.groups() for found in map(USE.match, lines) if found):
         file, of_type = file_of(path)
         file = file or path
         if listed is None:
@@ -97,26 +94,19 @@ def imports(lines):
 class Declaration:
     def __init__(self, file, name, context):
         self.file, self.name, self.context, self.lines = file, name, context, []
-
-    def kind(self):
-        if not self.file.is_relative_to(CRATES):
-            return "kit"
-        return "types" if self.file.suffix == ".rt" else "definitions"
-
-    def path(self):
-        return str(self.file.relative_to(CRATES if self.file.is_relative_to(CRATES) else KIT))
+        is_ours = file.is_relative_to(CRATES)
+        self.kind = "kit" if not is_ours else "types" if file.suffix == ".rt" else "definitions"
+        self.path = str(file.relative_to(CRATES if is_ours else KIT))
 
 
 class Module:
     """A file of definitions: its declarations, and where its other names come from."""
 
     def __init__(self, file):
-        lines = [line.split("--")[0].rstrip() if "--" in line else line.rstrip() for line in file.read_text().split("\n")]
-        lines = [line for line in lines if line.strip()]
-        self.file = file
+        lines = [line.split("--")[0].rstrip() for line in file.read_text().split("\n")]
+        lines = [line for line in lines if line]
+        self.file, self.declared, self.constructors, self.contexts = file, {}, {}, []
         self.names, self.modules = imports([line.strip() for line in lines])
-        self.declared, self.constructors = {}, {}
-        self.contexts = []
         self.read([line for line in lines if not re.match(r"(unfoldable )?(pub )?(use|mod) ", line.strip())])
 
     def read(self, lines):
@@ -131,19 +121,14 @@ class Module:
                 current.lines.append(text)
                 self.constructor(current, text)
             elif re.match(r"module |(abbrev )?(pub )?mutual$", text):
-                context = Declaration(self.file, text, None)
+                context = Declaration(self.file, text, [])
                 context.lines.append(text)
                 self.contexts.append(context)
                 open_contexts.append((indent, context))
                 current = None
-            else:
-                found = HEAD.match(text)
-                if not found:
-                    continue
-                name = found.group(1)
-                if name not in self.declared:
-                    self.declared[name] = Declaration(self.file, name, [c for _, c in open_contexts])
-                current = self.declared[name]
+            elif found := HEAD.match(text):
+                new = Declaration(self.file, found[1], [c for _, c in open_contexts])
+                current = self.declared.setdefault(found[1], new)
                 current.lines.append(text)
         self.operators = {part: d for name, d in self.declared.items() if "◌" in name for part in parts_of(name)}
 
@@ -169,10 +154,10 @@ class Types:
         for line in file.read_text().split("\n"):
             text = line.split("//")[0].strip()
             brought, head = RUST_USE.match(text), TYPE.match(text)
-            for entry in (brought.group(2) or brought.group(3)).split(",") if brought else []:
-                self.brought[entry.strip()] = crate if brought.group(1) == "crate" else brought.group(1)
+            for entry in (brought[2] or brought[3]).split(",") if brought else []:
+                self.brought[entry.strip()] = crate if brought[1] == "crate" else brought[1]
             if head:
-                current = self.declared.setdefault(head.group(1), Declaration(file, head.group(1), None))
+                current = self.declared.setdefault(head[1], Declaration(file, head[1], []))
             if current and text and not text.startswith("#["):
                 current.lines.append(text)
             if current and (line.startswith("}") or (head and text.endswith((";", "}")))):
@@ -257,19 +242,19 @@ def reached(calls):
             continue
         seen.append(found)
         here = module(found.file)
-        for text in found.lines + [line for c in found.context or [] for line in c.lines]:
+        for text in found.lines + [line for c in found.context for line in c.lines]:
             for word in NAME.findall(text):
                 todo += [d for d in here.reaches(word) if d]
-        todo += found.context or []
+        todo += found.context
     return seen
 
 
 def counted(found, kind):
     """How many lines of each file are reached."""
-    counts = {}
+    counts = collections.Counter()
     for d in found:
-        if d.kind() == kind:
-            counts[d.path()] = counts.get(d.path(), 0) + len(d.lines)
+        if d.kind == kind:
+            counts[d.path] += len(d.lines)
     return counts
 
 
@@ -285,7 +270,7 @@ def show(found, counts, base):
 
 def misprinted(text, chapter, counts):
     """The files of which a chapter's table says another count, or none."""
-    rows = {name: int(count) for name, count in ROW.findall(text.partition(f"\n## {chapter}\n")[2].partition("\n## ")[0])}
+    rows = {it: int(count) for it, count in ROW.findall(text.partition(f"\n## {chapter}\n")[2].partition("\n## ")[0])}
     for name in sorted({*rows, *counts}):
         if rows.get(name) != counts.get(name):
             yield f"docs/DEFINITIONS.md, {chapter}: {rows.get(name)} for {name}, not {counts.get(name)}"
@@ -295,24 +280,19 @@ def main():
     found = {"calls": reached(CALLS), "headline": reached(HEADLINE), "bytes": reached(BYTES)}
     every = list({id(d): d for ds in found.values() for d in ds}.values())
     counts = {name: counted(ds, "definitions") for name, ds in found.items()}
+    sums = {name: rows.total() for name, rows in counts.items()}
     show(every, counted(every, "definitions"), CRATES)
     for kind, base in (("types", CRATES), ("kit", KIT)):
         print(f"\n{kind}:")
         show(every, counted(every, kind), base)
     print()
-    sums = {name: sum(rows.values()) for name, rows in counts.items()}
     for name, ds in found.items():
-        types, kit = (sum(counted(ds, kind).values()) for kind in ("types", "kit"))
+        types, kit = (counted(ds, kind).total() for kind in ("types", "kit"))
         print(f"{name}: {sums[name]:,} lines in {len(counts[name])} files, {types} of declared types, {kit} of the kit")
-    types, kit = (sum(counted(every, kind).values()) for kind in ("types", "kit"))
+    types, kit = (counted(every, kind).total() for kind in ("types", "kit"))
     print(f"{sums['calls']:,} lines for normalise/check/compare, {sums['headline']:,} for the headline, {sums['bytes']:,} for the headline of bytes alone, {types:,} of declared types, {kit:,} of the kit")
-    told = [
-        f"{sums['calls']:,} lines of definitions in {len(counts['calls'])} files",
-        f"{sums['headline']:,} lines in {len(counts['headline'])} files",
-        f"{sums['bytes']:,} lines in {len(counts['bytes'])} files",
-        f"{types:,} lines of types",
-        f"{kit:,} lines of the kit's own",
-    ]
+    told = [f"{sums[name]:,} lines{' of definitions' if name == 'calls' else ''} in {len(rows)} files" for name, rows in counts.items()]
+    told += [f"{types:,} lines of types", f"{kit:,} lines of the kit's own"]
     texts = {name: (ROOT / name).read_text() for name in SAID_IN}
     wrong = [f"{name} doesn't say: {words}" for name, text in texts.items() for words in told[: SAID_IN[name]] if words not in text]
     wrong += [f"leads to no declaration: {name}" for name in sorted(LOST)]

@@ -3,12 +3,12 @@
 
     big.py PROGRAM [--into FILE] [--temporary FOLDER]
 
-The inputs are in their deterministic encoding: small integers one after another, an array of them, and a byte string.
-So `normalise` and `show --to wire` have to write what they read, and `check` to tell that it is deterministic. With one
-byte more each has to be refused as too long. A cell is seconds of wall time and the peak memory in MB. With --into the
-table takes the place of what stands between `<!-- begin big -->` and `<!-- end big -->`. Nothing is left on the disk.
+The inputs are in their deterministic encoding, so `normalise` and `show --to wire` have to write what they read, and `check`
+to tell that it is deterministic. With one byte more each has to be refused as too long. A cell is seconds of wall time and the
+peak memory in MB. With --into the table takes the place of what stands between `<!-- begin big -->` and `<!-- end big -->`.
 """
 import argparse
+import os
 import pathlib
 import subprocess
 import sys
@@ -53,16 +53,11 @@ def answers(program, source, folder):
 
 def refusals(program, source):
     """Each command on an input that is one byte longer, and whether it is refused for that."""
-    with open(source, "ab") as file:
-        file.write(b"\x00")
+    os.truncate(source, MOST + 1)
     for command in COMMANDS:
         with open(source, "rb") as read:
             done = subprocess.run([program, *command.split()], stdin=read, capture_output=True, timeout=600, check=False)
         yield command, Outcome(done.stdout, done.stderr, done.returncode) == TOO_LONG
-
-
-def cell(run):
-    return f"{run.wall:.1f}/{tables.megabytes(run)}"
 
 
 def main():
@@ -73,12 +68,11 @@ def main():
     given = words.parse_args()
     program, rows, passed, wrong = str(given.program.resolve()), [], 0, []
     with tempfile.TemporaryDirectory(dir=given.temporary) as name:
-        folder = pathlib.Path(name)
-        source = folder / "in"
+        folder, source = pathlib.Path(name), pathlib.Path(name, "in")
         for kind, front in INPUTS.items():
             write_input(front, source)
             found = list(answers(program, source, folder))
-            rows.append((kind, [cell(run) for _, run, _ in found]))
+            rows.append((kind, [f"{run.wall:.1f}/{tables.megabytes(run)}" for _, run, _ in found]))
             tried = [(command, is_right) for command, _, is_right in found]
             tried += [(f"{command}, one byte more", is_right) for command, is_right in refusals(program, source)]
             wrong += [f"{kind}: {command}" for command, is_right in tried if not is_right]

@@ -7,44 +7,33 @@ still has everything above it proved again. It writes none if a library has a ma
 then, and libraries of two builds don't fit together.
 """
 import os
+import pathlib
 import shutil
 import sys
 
 sys.path.insert(0, os.path.dirname(os.path.realpath(shutil.which("rt") or "rt")))
 
 
-def mark(folder):
-    """Marks what was built in the crates below a folder. Returns why it doesn't, or none."""
+def main():
     try:
         import rtlib
     except ImportError:
-        return "the kit's parts aren't next to its command rt: what rt ci built is proved again"
-    crates = rtlib.crates_below(folder)
+        print("the kit's parts aren't next to its command rt: what rt ci built is proved again")
+        return
+    crates = rtlib.crates_below(os.getcwd())
     if any(os.path.exists(f"{crate.folder}/out/rlib/stamp") for crate in crates):
-        return "an earlier build stands in out/: it is brought up to date"
+        print("an earlier build stands in out/: it is brought up to date")
+        return
     for crate in crates:
-        program = f"out/{crate.name}"
+        program = pathlib.Path(crate.folder, "out", crate.name)
         if os.path.isdir(crate.rlib):
-            put(f"{crate.folder}/out/rlib/stamp", crate.stamp())
-        elif crate.is_program and os.path.isfile(f"{crate.folder}/{program}"):
+            pathlib.Path(crate.folder, "out/rlib/stamp").write_text(crate.stamp(), encoding="utf-8")
+        elif crate.is_program and program.is_file():
             # what rt ci runs the program with is a part of what these commands compare
-            with open(f"{crate.folder}/args", encoding="utf-8") as words:
-                crate.said = {**crate.said, "args": words.read().splitlines()}
-            put(f"{crate.folder}/{program}.stamp", crate.stamp() + rtlib.sum_of(f"{crate.folder}/{program}"))
-    return None
-
-
-def put(file, text):
-    with open(file, "w", encoding="utf-8") as mark:
-        mark.write(text)
-
-
-def main():
-    why = mark(os.getcwd())
-    if why:
-        print(why)
-    return 0
+            words = pathlib.Path(crate.folder, "args").read_text(encoding="utf-8")
+            crate.said = {**crate.said, "args": words.splitlines()}
+            program.with_name(f"{crate.name}.stamp").write_text(crate.stamp() + rtlib.sum_of(str(program)), encoding="utf-8")
 
 
 if __name__ == "__main__":
-    sys.exit(main())
+    main()

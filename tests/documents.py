@@ -22,6 +22,8 @@ import subprocess
 import sys
 import tempfile
 
+import shared
+
 SHELLS = ("dash" if shutil.which("dash") else "sh", "bash")
 DOCUMENTS = ("README.md", "docs/GUIDE.md", "man/cborn.1")
 
@@ -69,38 +71,25 @@ def typed(shell, commands, folder, environment, stderr=subprocess.STDOUT):
     with tempfile.NamedTemporaryFile("w", suffix=".sh") as file:
         file.write("\n".join(script) + "\n")
         file.flush()
-        done = subprocess.run(
-            [shell, file.name],
-            cwd=folder,
-            env=environment,
-            stdin=subprocess.DEVNULL,
-            stdout=subprocess.PIPE,
-            stderr=stderr,
-            timeout=300,
-            check=False,
-        )
+        how = {"cwd": folder, "env": environment, "stdin": subprocess.DEVNULL, "stdout": subprocess.PIPE, "stderr": stderr}
+        done = subprocess.run([shell, file.name], timeout=300, check=False, **how)
     printed = done.stdout.split(MARK)[:-1]
     return [*printed, *[None] * (len(commands) - len(printed))]
-
-
-def is_of_error(line):
-    """Whether a line of the README's examples goes to standard error."""
-    return line.startswith(("cborn: ", "  "))
 
 
 def failed_examples(root, environment):
     """The examples whose commands print something else, and how many were run."""
     count, wrong = 0, []
-    for name, shell, is_apart in itertools.product(DOCUMENTS, SHELLS, (False, True)):
-        if is_apart and name != "README.md":
-            continue
+    # in the README what goes to standard error is told apart
+    ways = itertools.product(DOCUMENTS, SHELLS, (False, True))
+    for name, shell, is_apart in (it for it in ways if it[0] == "README.md" or not it[2]):
         all_of_it = list(examples(root / name))
+        stderr = subprocess.DEVNULL if is_apart else subprocess.STDOUT
         with tempfile.TemporaryDirectory() as folder:
-            stderr = subprocess.DEVNULL if is_apart else subprocess.STDOUT
             told = typed(shell, [it.command for it in all_of_it], folder, environment, stderr)
         for it, printed in zip(all_of_it, told):
             lines = it.printed.splitlines(keepends=True)
-            wanted = "".join(line for line in lines if not (is_apart and is_of_error(line))).encode()
+            wanted = "".join(line for line in lines if not (is_apart and line.startswith(("cborn: ", "  ")))).encode()
             count += 1
             if printed != wanted:
                 on = ", on standard output alone" if is_apart else ""
@@ -148,6 +137,7 @@ def make_tree(folder, recipe, refused):
 def failed_recipes(root, environment):
     """The recipes of the guide that refuse another file than the one that is to be refused, or write others; and how many runs there are."""
     count, wrong = 0, []
+    names = (None, *NAMES)
     guide = list(examples(root / "docs/GUIDE.md"))
     for recipe in RECIPES:
         chapter = [it.command for it in guide if it.heading == recipe.heading]
@@ -159,12 +149,12 @@ def failed_recipes(root, environment):
             work = pathlib.Path(top, "work")
             work.mkdir()
             commands = [*chapter, f"rm -rf {recipe.folder}/* {recipe.written or ''}"]
-            for number, refused in enumerate((None, *NAMES)):
+            for number, refused in enumerate(names):
                 make_tree(pathlib.Path(top, str(number)), recipe, refused)
                 written = f"(cd {recipe.written}; find . -type f -size 1c -printf '%P\\0' | LC_ALL=C sort -z)" if recipe.written else ":"
                 commands += [f"cp -r ../{number}/. {recipe.folder}; {recipe.before}", last[0], written]
             told = typed(SHELLS[0], commands, work, environment)[len(chapter) + 1:]
-        for refused, answer in zip((None, *NAMES), zip(told[1::3], told[2::3])):
+        for refused, answer in zip(names, zip(told[1::3], told[2::3])):
             wanted = answer_of(recipe, refused)
             count += 1
             if answer != wanted:
@@ -172,20 +162,16 @@ def failed_recipes(root, environment):
     return count, wrong
 
 
-def words_of_page(text):
-    """Those in a man page, which are in italics in the chapters of faults and defects."""
-    chapters = re.findall(r"^\.SH (?:FAULTS|DEFECTS)\n(.*?)^(?=\.SH )", text.replace("\\-", "-"), re.MULTILINE | re.DOTALL)
-    lines = re.findall(r"^\.(I|IR) (.*)", "".join(chapters), re.MULTILINE)
-    return [it for kind, line in lines for it in ([line] if kind == "I" else shlex.split(line)[::2])]
-
-
 def untold(root):
-    """The words of faults, as docs/FORMATS.md numbers them, that the man page lacks."""
+    """The words of faults, as docs/FORMATS.md numbers them, that aren't in italics in the two chapters of the man page."""
+    page = (root / "man/cborn.1").read_text().replace("\\-", "-")
+    chapters = re.findall(r"^\.SH (?:FAULTS|DEFECTS)\n(.*?)^(?=\.SH )", page, re.MULTILINE | re.DOTALL)
+    lines = re.findall(r"^\.(I|IR) (.*)", "".join(chapters), re.MULTILINE)
+    told = [it for kind, line in lines for it in ([line] if kind == "I" else shlex.split(line)[::2])]
     words = re.findall(r"^\| `0x[0-9a-f]{3}` \| ([^|:,]+?)(?:[:,][^|]*)? \|", (root / "docs/FORMATS.md").read_text(), re.MULTILINE)
     if not words:
         yield "docs/FORMATS.md numbers no fault"
-    for it in sorted({*words}.difference(words_of_page((root / "man/cborn.1").read_text()))):
-        yield f"man/cborn.1: there is no {it}"
+    yield from (f"man/cborn.1: there is no {it}" for it in sorted({*words}.difference(told)))
 
 
 def other_versions(root):
@@ -230,12 +216,8 @@ def main():
         **{f"GIT_{who}_{what}": "nobody" for who in ("AUTHOR", "COMMITTER") for what in ("NAME", "EMAIL")},
     }
     counts, failed = zip(failed_examples(root, environment), failed_recipes(root, environment))
-    wrong = [line for lines in failed for line in lines]
-    lost = [*untold(root), *other_versions(root)]
-    for line in (*wrong, *lost):
-        print(line)
-    print(f"{sum(counts) - len(wrong)} examples passed, {len(wrong) + len(lost)} failed")
-    return 1 if wrong or lost or not all(counts) else 0
+    wrong, lost = sum(failed, []), [*untold(root), *other_versions(root)]
+    return shared.status(all(counts), wrong + lost, f"{sum(counts) - len(wrong)} examples passed")
 
 
 if __name__ == "__main__":

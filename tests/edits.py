@@ -9,7 +9,6 @@ An edit shows a function that it turns, and each that calls one which it shows. 
 for those that have no clause, the laws, and the methods of a trait, which stand at the types that have them. Calls are found
 by name, within the crate: of a method by that of its type, or after a dot in a file that names the type.
 """
-import pathlib
 import re
 import sys
 
@@ -17,10 +16,6 @@ from promises import CRATES, FUNCTION, OWNER, ROOT, public
 
 CALL = re.compile(r"(?:(\w+)(?:::<[^()]*?>)?::)?(\.)?\b(\w+)(?:::<[^()]*?>)?\(")
 TRAIT = re.compile(r"^pub trait (\w+)", re.M)
-
-
-class Unfit(Exception):
-    """Says why an edit can't be made."""
 
 
 def turned(edit):
@@ -36,15 +31,15 @@ def turned(edit):
             old = rest
         elif word == "new" and old and path:
             if texts[path].count(old) != 1:
-                raise Unfit(f"stands {texts[path].count(old)} times in {path.name}, and not once: {old}")
+                raise ValueError(f"stands {texts[path].count(old)} times in {path.name}, and not once: {old}")
             texts[path], old = texts[path].replace(old, rest), None
         else:
-            raise Unfit(f"is no line of an edit: {line}")
+            raise ValueError(f"is no line of an edit: {line}")
     # an old and a new text are one line each, so that all lines keep their numbers
     pairs = {it: zip(it.read_text(encoding="utf-8").splitlines(), text.splitlines()) for it, text in texts.items()}
     lines = {(it, number) for it, both in pairs.items() for number, (was, now) in enumerate(both) if was != now}
     if not lines:
-        raise Unfit("changes nothing")
+        raise ValueError("changes nothing")
     return lines
 
 
@@ -99,11 +94,11 @@ def main():
     count, wrong = 0, []
     for crate in CRATES:
         edits = []
-        for edit in sorted(pathlib.Path(ROOT, "crates", crate).glob("must-fail/*")):
+        for edit in sorted(ROOT.glob(f"crates/{crate}/must-fail/*")):
             count += 1
             try:
                 edits.append(turned(edit))
-            except (Unfit, OSError, AttributeError) as why:
+            except (ValueError, OSError, AttributeError) as why:
                 wrong.append(f"{edit.relative_to(ROOT)}: {why}")
         wrong += [f"crates/{crate}: no must-fail edit turns {it}, or what it calls" for it in unshown(crate, edits)]
     print(*wrong, f"{count} must-fail edits; {len(wrong)} failed", sep="\n")

@@ -9,12 +9,13 @@ input, a map with a duplicate key, each prints the fault or shows the map. An ex
 end, ends with another status. $CC or cc is gcc or clang.
 """
 import itertools
-import os
 import pathlib
 import subprocess
 import sys
 import tempfile
 import textwrap
+
+import shared
 
 TOP = pathlib.Path(__file__).resolve().parent.parent
 FLAGS = ["-std=c11", "-g", "-O1", "-Wall", "-Wextra", "-Werror", "-fsanitize=address,undefined", "-fno-sanitize-recover=all"]
@@ -54,24 +55,21 @@ def examples():
 
 def ran(text, build, folder):
     """What an example writes, and its status."""
-    source, program = pathlib.Path(folder, "example.c"), f"{folder}/example"
+    source = pathlib.Path(folder, "example.c")
     source.write_text(text)
-    compiler = os.environ.get("CC", "cc")
-    subprocess.run([compiler, *FLAGS, f"-I{TOP}/include", "-o", program, str(source), f"{build}/libcborn.a"], check=True)
+    program = shared.compiled(f"{folder}/example", *FLAGS, f"-I{TOP}/include", source, f"{build}/libcborn.a")
     done = subprocess.run([program], capture_output=True, check=False)
     return done.stdout, done.stderr, done.returncode
 
 
 def wrong_of(heading, text, build, folder):
-    own, of_twice = WANTED[heading]
-    outcome = ran(text, build, folder)
-    if outcome != own:
-        yield f"{heading}: {outcome}"
     if text.count(LOOSE) != 1:
         yield f"{heading}: the input isn't there to be changed"
-    outcome = ran(text.replace(LOOSE, TWICE), build, folder)
-    if outcome != of_twice:
-        yield f"{heading}, with a duplicate key: {outcome}"
+    texts = {heading: text, f"{heading}, with a duplicate key": text.replace(LOOSE, TWICE)}
+    for (name, tried), wanted in zip(texts.items(), WANTED[heading]):
+        outcome = ran(tried, build, folder)
+        if outcome != wanted:
+            yield f"{name}: {outcome}"
 
 
 def main():
@@ -82,9 +80,7 @@ def main():
     with tempfile.TemporaryDirectory() as folder:
         for heading in sorted(set(found) & set(WANTED)):
             wrong += wrong_of(heading, found[heading], build, folder)
-    for line in wrong:
-        print(line)
-    print(f"{len(found)} examples in C ran under the sanitizers; {len(wrong)} failed")
+    print(*wrong, f"{len(found)} examples in C ran under the sanitizers; {len(wrong)} failed", sep="\n")
     return 1 if wrong or not found else 0
 
 

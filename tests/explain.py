@@ -10,7 +10,7 @@ well-formed the path is also followed in the notation that `show` writes, to the
 Then compare random inputs, and again what they are with what `normalise` makes of them. The path has to lead to where the
 deterministic encodings of tests/reading.py, or the bytes, first differ, and in each input the place to what is told of it.
 """
-import pathlib
+import itertools
 import os
 import random
 import re
@@ -18,15 +18,20 @@ import sys
 import tempfile
 
 import shared
-from reading import Bytes, canonical, head
+from reading import WIDTHS, Bytes, canonical, head
 
 SEED = 8949
 # the end of a path whose further steps aren't known
 CUT = ".."
 COUNT = 500
-WIDTHS = {24: 1, 25: 2, 26: 4, 27: 8}
+# what has parts, by its major type
+KINDS = {2: "chunk", 3: "chunk", 4: "array", 5: "map"}
 PLACE = re.compile(r"offset (\d+): (.*)")
-STEP = re.compile(r"(\d+\(\)|\(_ #\d+\)|\[\d+\]|<<\d+>>|\{key #\d+\}|\{.*? #\d+\})(?:\*(\d+))?(?: |$)", re.DOTALL)
+STEP = re.compile(
+    r"(?:(?P<tag>\d+)\(\)|\(_ #(?P<chunk>\d+)\)|\[(?P<array>\d+)\]|<<(?P<embedded>\d+)>>|\{key #(?P<key>\d+)\}|\{.*? #(?P<value>\d+)\})"
+    r"(?:\*(\d+))?(?: |$)",
+    re.DOTALL,
+)
 TOKEN = re.compile(
     r"(?P<blank>[ \t\r\n]+|/[^/]*/)"
     r"|(?P<string>(?:h|b64)?'(?:\\.|[^'\\])*'|\"(?:\\.|[^\"\\])*\")(?:_\w*)?"
@@ -95,20 +100,12 @@ def path_in_bytes(content, place):
         if at + length > min(place, len(content)):
             break
         at += length
-        if info == 31 and major in (2, 3, 4, 5):
-            levels.append([{2: "chunk", 3: "chunk"}.get(major, {4: "array", 5: "map"}.get(major)), 0, None])
+        parts = None if info == 31 and major in KINDS else {4: number, 5: 2 * number, 6: 1}.get(major, 0)
+        if parts != 0:
+            levels.append([KINDS.get(major, number), 0, parts])
             continue
         if info == 31 and major == 7:
             levels.pop()
-        elif major == 4 and number:
-            levels.append(["array", 0, number])
-            continue
-        elif major == 5 and number:
-            levels.append(["map", 0, 2 * number])
-            continue
-        elif major == 6:
-            levels.append([number, 0, 1])
-            continue
         while levels:
             levels[-1][1] += 1
             if levels[-1][2] is None or levels[-1][1] < levels[-1][2]:
@@ -167,21 +164,9 @@ def told_path(line):
         found = STEP.match(line, at)
         if not found:
             raise ValueError(f"no step at {at} of {line!r}")
-        steps += [told_step(found[1])] * int(found[2] or 1)
+        steps += [(kind, int(number)) for kind, number in found.groupdict().items() if number] * int(found[7] or 1)
         at = found.end()
     return item, steps + [CUT] * cut
-
-
-def told_step(step):
-    if step[0] == "[":
-        return "array", int(step[1:-1])
-    if step.startswith("(_"):
-        return "chunk", int(step[4:-1])
-    if step.startswith("<<"):
-        return "embedded", int(step[2:-2])
-    if step[0] == "{":
-        return "key" if step.startswith("{key #") else "value", int(step.rsplit("#", 1)[1][:-1])
-    return "tag", int(step[:-2])
 
 
 def end_of(content, place):
@@ -213,10 +198,9 @@ def following(text, at):
 def followed(text, path):
     """The part of the fixed notation of some items that a path leads to."""
     item, steps = path
-    node, at = None, 0
-    for _ in range(item + 1):
-        node = parsed(text, at)
-        at = node[1] + 1
+    node = parsed(text, 0)
+    for _ in range(item):
+        node = parsed(text, node[1] + 1)
     for kind, number in steps:
         index = {"key": 2 * number, "value": 2 * number + 1, "tag": 0}.get(kind, number)
         node = node[2][index]
@@ -238,10 +222,8 @@ def differences(served, words, content):
         return
     labels = dict(line.strip().split(maxsplit=1) for line in explained.stderr[len(err) :].decode().split("\n") if line[:2] == "  " and len(line.split()) > 1)
     place, is_text = int(told[1]), "--from" in words
-    if is_text:
-        wanted = path_in_text(content[:place].decode(errors="replace"), len(content[:place].decode(errors="replace")))
-    else:
-        wanted = path_in_bytes(content, place)
+    front = content[:place].decode(errors="replace")
+    wanted = path_in_text(front, len(front)) if is_text else path_in_bytes(content, place)
     path = told_path(labels["path"])
     # where a text isn't UTF-8, a token before that may be wrong, and the path ends there
     before = PLACE.search(served.run(words, content[:place]).stderr.decode()) if is_text and told[2] == "not UTF-8" else None
@@ -268,23 +250,9 @@ def inputs(choice, count):
         yield ["show", "--depth", str(choice.randrange(1, 4))], items
 
 
-def with_texts(served, those):
-    """Command lines with their inputs, and with a text made of an input where it can be shown."""
-    for words, content in those:
-        yield words, content
-        shown = served.run(["show"], content) if words == ["check"] else None
-        if shown and shown.status == 0:
-            yield ["normalise", "--from", "notation"], mutated(random.Random(content), shown.stdout)
-
-
 # what `compare` tells of a side: of bytes the offset, of a text line and column too
 SIDE = re.compile(r"(?:\[(?P<index>\d+)\] )?(?:of the (?P<of>first|second) )?at (?:\d+:\d+ \()?offset (?P<place>\d+)\)?: (?P<what>.*)")
 AROUND = re.compile(r"^(?:the key |an? (?:array|map) of \d+: )?(.*?)(?:, which the (?:first|second|other map) lacks)?$")
-
-
-def first_difference(left, right):
-    """How many bytes two byte strings have in common at their start."""
-    return next((at for at, (ours, theirs) in enumerate(zip(left, right)) if ours != theirs), min(len(left), len(right)))
 
 
 def to_key(path):
@@ -307,18 +275,15 @@ def fixed(served, content, *words):
 def named(served, content, path):
     """The line of a path, with the keys of pairs in the place of their indexes."""
     item, steps = path
-    texts = [f"item {item}"]
+    texts = []
     for at, (kind, number) in enumerate(steps):
         text = {"array": f"[{number}]", "tag": f"{number}()", "chunk": f"(_ #{number})", "key": "{key}"}.get(kind)
         if kind == "value":
             key = place_of(content, (item, [*steps[:at], ("key", number)]))
             text = "{%s}" % fixed(served, content[key : end_of(content, key)])
-        times = 1
-        if texts[-1].split("*")[0] == text:
-            last = texts.pop()
-            times += int(last[len(text) + 1 :] or 1)
-        texts.append(f"{text}*{times}" if times > 1 else text)
-    return " ".join(texts)
+        texts.append(text)
+    counted = ((text, len(list(same))) for text, same in itertools.groupby(texts))
+    return " ".join([f"item {item}", *(f"{text}*{times}" if times > 1 else text for text, times in counted)])
 
 
 def told_part(served, content, is_text, line):
@@ -326,8 +291,8 @@ def told_part(served, content, is_text, line):
     found = SIDE.fullmatch(line)
     place, told = int(found["place"]), AROUND.match(found["what"])[1]
     if is_text:
-        end = parsed(content.decode(), len(content[:place].decode()))[1]
-        item = fixed(served, content.decode()[len(content[:place].decode()) : end].encode(), "--from", "notation")
+        text, start = content.decode(), len(content[:place].decode())
+        item = fixed(served, text[start : parsed(text, start)[1]].encode(), "--from", "notation")
     else:
         item = fixed(served, content[place : end_of(content, place)])
     return place, told == item or ".." in told or len(item) > 40
@@ -336,7 +301,8 @@ def told_part(served, content, is_text, line):
 def difference_faults(served, files, is_text, told):
     """What is wrong with where two inputs are told to differ. The second may be the text of bytes."""
     encodings = [b"".join(canonical(content)) for content in files]
-    at = first_difference(*encodings)
+    # of byte strings too it is what they have in common at their start
+    at = len(os.path.commonprefix(encodings))
     wanted = named(served, encodings[0], to_key(path_in_bytes(encodings[0], at)))
     path = told["path"][0]
     if ".." in path or len(wanted) > 40:
@@ -368,7 +334,7 @@ def difference_faults(served, files, is_text, told):
 
 def spelling_faults(files, text, told):
     """What is wrong with where the bytes of two inputs that are the same are told to differ. The second may be a text."""
-    path = path_in_bytes(files[0], first_difference(*files))
+    path = path_in_bytes(files[0], len(os.path.commonprefix(files)))
     wanted = to_key(path) if told.get("why") else path
     if told_path(told["path"][0]) != wanted:
         yield f"the path is {told['path'][0]}, not {wanted}"
@@ -444,41 +410,37 @@ def pairs_of_inputs(choice, count):
         yield inputs, not choice.randrange(3)
 
 
-def compared(library, program, those):
-    """The same of pairs of inputs, each way round, and of each with what is the same in other bytes."""
-    passed = failed = 0
-    lines = []
-    with shared.Served(library, program) as served, tempfile.TemporaryDirectory() as folder:
+def compared(served, those):
+    """Pairs of inputs, each way round, and each with what is the same in other bytes: a name for each, and what is wrong."""
+    with tempfile.TemporaryDirectory() as folder:
         for (left, right), is_text in those:
             in_order = [served.run(["normalise", "--order", order], left).stdout for order in ("bytewise", "length-first")]
             for files in ([left, right], [right, left], *([left, other] for other in in_order)):
-                wrong = list(comparison_faults(served, folder, files, is_text))
-                passed, failed = (passed, failed + 1) if wrong else (passed + 1, failed)
-                lines += [f"compare {files[0].hex()} {files[1].hex()} {'in notation' * is_text}: {line}" for line in wrong]
-    return passed, failed, lines
+                name = f"compare {files[0].hex()} {files[1].hex()} {'in notation' * is_text}"
+                yield name, 1, list(comparison_faults(served, folder, files, is_text))
 
 
-def tried(library, program, those):
-    """Some command lines: how many passed and failed, and what is wrong."""
-    passed = failed = 0
-    lines = []
-    with shared.Served(library, program) as served:
-        for words, content in with_texts(served, those):
-            wrong = list(differences(served, words, content))
-            passed, failed = (passed, failed + 1) if wrong else (passed + 1, failed)
-            lines += [f"{' '.join(words)}: {content if '--from' in words else content.hex(' ')}: {line}" for line in wrong]
-    return passed, failed, lines
+def explained(served, those):
+    """The same of command lines, each with its input, and with a text made of an input where it can be shown."""
+    for asked, given in those:
+        runs = [(asked, given)]
+        shown = served.run(["show"], given) if asked == ["check"] else None
+        if shown and shown.status == 0:
+            runs.append((["normalise", "--from", "notation"], mutated(random.Random(given), shown.stdout)))
+        for words, content in runs:
+            name = f"{' '.join(words)}: {content if '--from' in words else content.hex(' ')}"
+            yield name, 1, list(differences(served, words, content))
 
 
 def main():
-    program = str(pathlib.Path(sys.argv[1]).resolve())
-    count = int(sys.argv[2]) if len(sys.argv) > 2 else COUNT
-    with shared.library("serve.c") as library:
-        passed, failed, lines = shared.over_processors(tried, inputs(random.Random(SEED), count), library, program, at_once=64)
-        pairs = shared.over_processors(compared, pairs_of_inputs(random.Random(SEED), count), library, program, at_once=64)
-    passed, failed, lines = passed + pairs[0], failed + pairs[1], lines + pairs[2]
-    print(*lines, f"{passed} explanations passed, {failed} failed", sep="\n")
-    return 1 if failed or not passed else 0
+    program, count = sys.argv[1], int(sys.argv[2]) if len(sys.argv) > 2 else COUNT
+    runs = failed = 0
+    for find, made in ((explained, inputs), (compared, pairs_of_inputs)):
+        some, wrong, _, lines = shared.served_over_processors(find, made(random.Random(SEED), count), program, "serve.c", at_once=64)
+        runs, failed = runs + some, failed + wrong
+        print(*lines, sep="\n", end="\n" if lines else "")
+    print(f"{runs - failed} explanations passed, {failed} failed")
+    return 1 if failed or failed == runs else 0
 
 
 if __name__ == "__main__":

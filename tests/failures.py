@@ -14,7 +14,6 @@ as on the longest inputs, its first and its last ones have trouble.
 import collections
 import itertools
 import os
-import pathlib
 import re
 import sys
 
@@ -26,12 +25,8 @@ KINDS = {
     "read": ("fail", "interrupt", "short"),
     "write": ("fail", "interrupt", "short", "nothing"),
     # of a file that an answer goes to; these are tried again where they are interrupted, but for a renaming
-    "readlink": ("fail",),
-    "statx": ("fail",),
-    "create": ("fail", "interrupt"),
-    "fchmod": ("fail", "interrupt"),
-    "fsync": ("fail", "interrupt"),
-    "rename": ("fail", "interrupt"),
+    **dict.fromkeys(("readlink", "statx"), ("fail",)),
+    **dict.fromkeys(("create", "fchmod", "fsync", "rename"), ("fail", "interrupt")),
 }
 MANY, EACH_END = 64, 2
 STANDARD_OUTPUT, STANDARD_ERROR = 1, 2
@@ -71,11 +66,6 @@ def which_input(words, number):
     return ("first: ", "second: ")[number] if words[:1] == ["compare"] else ""
 
 
-def escaped(name):
-    """A name as it is printed: with control characters and backslashes escaped."""
-    return re.sub(r"[\x00-\x1f\x7f-\x9f\\\\]", lambda it: f"\\u{ord(it[0]):04x}", name).encode()
-
-
 # what a run says of one of several files: to standard output, to standard error, and its status
 Part = collections.namedtuple("Part", "out err status")
 
@@ -86,7 +76,8 @@ def parts_of(words, ample):
     out, err = (list(text.splitlines(keepends=True)) for text in ample[:2])
     parts = []
     for name in names if len(names) > 1 and ample.status != 3 else []:
-        name, ours = escaped(name), []
+        # it is printed with control characters and backslashes escaped
+        name, ours = re.sub(r"[\x00-\x1f\x7f-\x9f\\\\]", lambda it: f"\\u{ord(it[0]):04x}", name).encode(), []
         own = (b"cborn: " + name + b": ", b"cborn: cannot read " + name + b"\n", b"  file  " + name + b"\n")
         is_refused = bool(err) and err[0].startswith(own[:2])
         if err and err[0].startswith(own):
@@ -180,25 +171,17 @@ def tried_on(served, case):
             yield f"{kind} at {trouble}", outcome, answer if answer is ample else answer._replace(left=case.before)
 
 
-def tried(library, program, those):
-    """The command lines of some cases: how many troubles and runs that were, and the wrong ones."""
-    troubles = runs = 0
-    wrong = []
-    with shared.Served(library, program) as served:
-        for table, case in cases(those):
-            runs += 1
-            for name, outcome, answer in tried_on(served, case):
-                troubles += 1
-                if outcome != answer:
-                    wrong.append(f"{table}: {case.name}: {name}: {outcome}, not {answer}")
-    return troubles, runs, wrong
+def in_turn(served, those):
+    """The command lines of some cases: each with how many troubles it had, and the wrong outcomes."""
+    for table, case in cases(those):
+        found = list(tried_on(served, case))
+        wrong = [f"{name}: {outcome}, not {answer}" for name, outcome, answer in found if outcome != answer]
+        yield f"{table}: {case.name}", len(found), wrong
 
 
 def main():
     program, *tables = sys.argv[1:]
-    with shared.library("serve.c", "trouble.c") as library:
-        found = shared.over_processors(tried, listed(tables), library, str(pathlib.Path(program).resolve()))
-    troubles, runs, wrong = found
+    runs, _, troubles, wrong = shared.served_over_processors(in_turn, listed(tables), program, "serve.c", "trouble.c")
     return shared.status(troubles, wrong, f"{troubles} troubles of {runs} command lines made in turn")
 
 

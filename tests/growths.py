@@ -2,22 +2,19 @@
 """Refuse each growth in turn: run something once for each of its requests for memory, with that one refused.
 
     growths.py PROGRAM [TABLE..]    each command line of the tables of this folder, and not those of forms/
-    growths.py --tests TESTS [WORD..]
-                                    each test of a crate's built tests, crates/NAME/out/NAME_tests, or each
-                                    whose name has one of the words; but for those of fronts, which make one call for
-                                    thousands of inputs that other tests have as a whole
+    growths.py --tests TESTS        each test of a crate's built tests, crates/NAME/out/NAME_tests, but for those of fronts,
+                                    which make one call for thousands of inputs that other tests have as a whole
 
 A command line has to answer as it does with enough memory, or with out of memory: status 4, nothing on standard output,
 and one line on standard error. An explanation may end with a line that says out of memory, after an unchanged first
 line. If the growth was for the path of a file that was to be opened, the line is that this file can't be read, and with -o
-it may be that the write failed. A test has to pass with enough memory. With a growth refused it has to pass too, or to fail by out of memory: by the error that a
-call answered, and not by an answer that differs. refuse.c, which is compiled by $CC or cc, refuses, and serve.c
-begins the runs.
+it may be that the write failed. A test has to pass with enough memory. With a growth refused it has to pass too, or to fail
+by out of memory: by the error that a call answered, and not by an answer that differs. trouble.c, which is compiled by $CC
+or cc, refuses, and serve.c begins the runs.
 """
 import collections
 import itertools
 import os
-import pathlib
 import re
 import subprocess
 import sys
@@ -40,7 +37,7 @@ Refused = collections.namedtuple("Refused", "outcome size opened")
 def refused_in_turn(run, *given, first=1, step=1):
     """What came of a run with a request for memory refused: the first, then the one so many steps after it, to the last."""
     for nth in itertools.count(first, step):
-        outcome, told = run(*given, REFUSE_NTH=str(nth))
+        outcome, told = run(*given, TROUBLE_NTH=str(nth), TROUBLE_KIND="refuse")
         if not told:
             return
         yield Refused(outcome, *map(int, told))
@@ -85,73 +82,55 @@ def shorter_explanations(words, ample):
 
 
 def command_lines(served, those):
-    """Each command line of some cases: its name, what came of its runs, and which outcomes it may have."""
+    """Each command line of some cases: its name, how many growths it has, and the outcomes that it may not have."""
     for table, case in cases(those):
         ample, _ = served.of_case(case)
-        outcomes = refused_in_turn(served.of_case, case)
+        found = list(refused_in_turn(served.of_case, case))
+        yield f"{table}: {case.name}", *judged(found, lambda refused: refused.outcome in allowed(case, ample, refused))
 
-        def is_allowed(refused, ample=ample, case=case):
-            # a want of memory leaves the folder as it was
-            wants = (it._replace(left=case.before) for it in wants_of_memory(case.words, refused))
-            several = wants_of_several(parts_of(case.words, ample), case.words)
-            return refused.outcome in (ample, *wants, *shorter_explanations(case.words, ample), *several)
 
-        yield f"{table}: {case.name}", list(outcomes), is_allowed
+def allowed(case, ample, refused):
+    """The outcomes that a run may have with a growth refused."""
+    # a want of memory leaves the folder as it was
+    wants = (it._replace(left=case.before) for it in wants_of_memory(case.words, refused))
+    several = wants_of_several(parts_of(case.words, ample), case.words)
+    return ample, *wants, *shorter_explanations(case.words, ample), *several
+
+
+def judged(outcomes, is_right):
+    """How many they are, and a line for each that isn't right."""
+    return len(outcomes), [f"growth {nth} of {len(outcomes)}: {it}" for nth, it in enumerate(outcomes, 1) if not is_right(it)]
 
 
 def passes_or_wants(outcome):
     return outcome.status == 0 or (outcome.status in (FAILED, ABORTED) and WANT.search(outcome.stderr))
 
 
-def tests_of_libraries(*given):
-    return built_tests(passes_or_wants, *given)
-
-
-def shares_of_tests(tests, words):
-    """The shares of all built tests but those of fronts, or of each whose name has one of the words: its name, and which growth
-    is refused first."""
+def shares_of_tests(tests):
+    """The shares of all built tests but those of fronts: its name, and which growth is refused first."""
     told = subprocess.run([tests, "--list"], stdout=subprocess.PIPE, text=True, check=True).stdout
-    names = re.findall(r"^(.*): test$", told, re.MULTILINE)
-    those = [name for name in names if (any(word in name for word in words) if words else not name.startswith("fronts::"))]
-    return [(name, first) for name in those for first in range(1, SHARES + 1)]
+    names = re.findall(r"^(?!fronts::)(.*): test$", told, re.MULTILINE)
+    return [(name, first) for name in names for first in range(1, SHARES + 1)]
 
 
-def built_tests(is_allowed, served, shares):
-    """Each share of these tests: its name, the outcomes of its runs, and which outcomes it may have."""
+def built_tests(served, shares):
+    """Each share of these tests: its name, how many growths it has, and the outcomes that it may not have."""
     for name, first in shares:
         ample = served.run([name])
         if ample.status == 0:
-            outcomes = refused_in_turn(served.told, [name], first=first, step=SHARES)
-            yield f"{name}, one growth in {SHARES} from growth {first}", [it.outcome for it in outcomes], is_allowed
+            outcomes = [it.outcome for it in refused_in_turn(served.told, [name], first=first, step=SHARES)]
+            yield f"{name}, one growth in {SHARES} from growth {first}", *judged(outcomes, passes_or_wants)
         else:
-            yield f"{name}, with ample memory", [ample], lambda _: False
-
-
-def tried(find, library, program, those):
-    """Some cases or tests: how many growths and runs that were, and a line for each wrong outcome."""
-    growths = runs = 0
-    wrong = []
-    with shared.Served(library, program) as served:
-        for name, outcomes, is_allowed in find(served, those):
-            growths, runs = growths + len(outcomes), runs + 1
-            for nth, outcome in enumerate(outcomes, 1):
-                if not is_allowed(outcome):
-                    wrong.append(f"{name}: growth {nth} of {len(outcomes)}: {outcome}")
-    return growths, runs, wrong
-
-
-TESTS = {"--tests": tests_of_libraries}
+            yield f"{name}, with ample memory", *judged([ample], lambda _: False)
 
 
 def main():
-    find = TESTS.get(sys.argv[1], command_lines)
-    program, *words = sys.argv[1:] if find is command_lines else sys.argv[2:]
-    program = str(pathlib.Path(program).resolve())
-    those = listed(words) if find is command_lines else shares_of_tests(program, words)
-    with shared.library("serve.c", "refuse.c") as library:
-        found = shared.over_processors(tried, those, find, library, program)
-    growths, runs, wrong = found
-    runs = runs if find is command_lines else runs // SHARES
+    is_of_tests = sys.argv[1] == "--tests"
+    program, *tables = sys.argv[1 + is_of_tests :]
+    those = shares_of_tests(os.path.abspath(program)) if is_of_tests else listed(tables)
+    find = built_tests if is_of_tests else command_lines
+    runs, _, growths, wrong = shared.served_over_processors(find, those, program, "serve.c", "trouble.c")
+    runs = runs // SHARES if is_of_tests else runs
     return shared.status(growths, wrong, f"{growths} growths of {runs} runs refused in turn")
 
 

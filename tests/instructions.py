@@ -8,7 +8,6 @@ what it kept in registers, or loses an inlining: nothing else does, since the an
 files of some 16 KB, over what an empty file takes: what the loader does differs from machine to machine. The bounds are of the
 program as it is proved and built; an unproved build may differ by more.
 """
-import argparse
 import base64
 import concurrent.futures
 import os
@@ -129,12 +128,8 @@ def arrays():
 
 def runs():
     """Each command, with the name and the content of what it reads."""
-    for command in FROM_TEXT:
-        for name, text in texts().items():
-            yield command, name, text.encode()
-    for command in FROM_BYTES:
-        for name, data in arrays().items():
-            yield command, name, data
+    of_texts = [(command, name, text.encode()) for command in FROM_TEXT for name, text in texts().items()]
+    return of_texts + [(command, name, data) for command in FROM_BYTES for name, data in arrays().items()]
 
 
 def counted(program, run):
@@ -152,30 +147,21 @@ def counted(program, run):
     return int(refs[1].replace(b",", b"")) // 1000
 
 
-def bounds():
-    """The bound of each run, in thousands of instructions."""
-    rows = (line.split(" | ") for line in BOUNDS.read_text().splitlines() if not line.startswith("#"))
-    return {(command, name): int(most) for command, name, most in rows}
-
-
 def main():
-    parser = argparse.ArgumentParser()
-    parser.add_argument("program")
-    parser.add_argument("--write", action="store_true")
-    asked = parser.parse_args()
     if shutil.which("valgrind") is None:
         print("the instructions aren't counted: no valgrind")
         return 0
-    program, those = os.path.abspath(asked.program), list(runs())
+    program, those = os.path.abspath(sys.argv[1]), runs()
     commands = FROM_TEXT + FROM_BYTES
     with concurrent.futures.ThreadPoolExecutor(os.cpu_count()) as pool:
         empty = dict(zip(commands, pool.map(lambda command: counted(program, (command, "nothing", b"")), commands)))
         counts = list(pool.map(lambda run: counted(program, run) - empty[run[0]], those))
-    if asked.write:
+    if sys.argv[2:] == ["--write"]:
         rows = (f"{command} | {name} | {int(count * SLACK) + 1}\n" for (command, name, _), count in zip(those, counts))
         BOUNDS.write_text(HEADING + "".join(rows))
         return 0
-    most, wrong = bounds(), 0
+    rows = (line.split(" | ") for line in BOUNDS.read_text().splitlines() if not line.startswith("#"))
+    most, wrong = {(command, name): int(bound) for command, name, bound in rows}, 0
     for (command, name, _), count in zip(those, counts):
         if count > most.get((command, name), 0):
             wrong += 1

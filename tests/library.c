@@ -1,15 +1,9 @@
 /* Answers calls of the library, one for each line of standard input, and tests with each what no proof reaches:
 
-       normalise FROM TO ORDER DEPTH FILE
-       show FROM TO DEPTH FILE
-       check ORDER DEPTH FILE
-       compare FROM_A FROM_B DEPTH FILE FILE
-       same FROM_A FROM_B DEPTH FILE FILE
-       end DEPTH START FILE
-       explain FROM DEPTH NUMBER PLACE FILE
-       words NUMBER
+       CALL FROM TO ORDER DEPTH NUMBER PLACE FILE [FILE]
 
-   and normalise-one, show-one, check-one and compare-one as the call without -one.
+   A call is normalise, show, check or compare, one of these with -one, same, end, explain, or words, which has no file. It has
+   each number, also those that it makes nothing of. TO is that of the second file, if there is one.
 
    Each gets a line 'CODE PLACE LENGTH', and then LENGTH bytes. What is tested: inputs and buffers end where memory
    ends, so that an access one byte too far ends the program. For a buffer one byte too small, and for NULL with length 0,
@@ -165,18 +159,7 @@ static bool is_filled(const uint8_t *bytes, size_t length, int with)
     return true;
 }
 
-static bool are_same(answer a, answer b)
-{
-    return a.code == b.code && a.told.place == b.told.place && a.told.length == b.told.length;
-}
-
-/* Whether from bytes to bytes so much room is enough as docs/LIBRARY.md says. */
-static bool is_bounded(const call *asked, size_t length)
-{
-    size_t given = asked->first.length;
-    bool is_of_bytes = is_called(asked, "normalise") && asked->from == CBORN_WIRE && asked->to == CBORN_WIRE;
-    return !is_of_bytes || length <= given + given / 3;
-}
+static bool are_same(answer a, answer b) { return a.code == b.code && a.told.place == b.told.place && a.told.length == b.told.length; }
 
 /* The answer, and its bytes in a buffer that they fill. */
 static answer filled(const call *asked, uint8_t **out)
@@ -185,8 +168,9 @@ static answer filled(const call *asked, uint8_t **out)
     *out = NULL;
     if (told.code != CBORN_TOO_SMALL)
         return told;
-    size_t length = told.told.length;
-    if (!is_bounded(asked, length))
+    size_t length = told.told.length, given = asked->first.length;
+    /* docs/LIBRARY.md says how much room is enough from bytes to bytes */
+    if (is_called(asked, "normalise") && asked->from == CBORN_WIRE && asked->to == CBORN_WIRE && length > given + given / 3)
         fail("an answer is longer than its bound", asked, (long)length);
     *out = guarded(length);
     memset(*out, FILL, length);
@@ -241,27 +225,25 @@ static long test_growths(const call *asked, answer told, const uint8_t *out)
     return tried;
 }
 
-/* The stack of one call, on a thread whose stack is painted. */
+/* A call and what it has to answer. */
 typedef struct {
-    const call *asked;
+    call asked;
     answer told;
 } run;
 
+/* The stack of one call, on a thread whose stack is painted. */
 static void *answered_on_thread(void *given)
 {
     run *it = given;
     uint8_t *out = it->told.told.length ? __real_malloc(it->told.told.length) : NULL;
-    answer got = answered(it->asked, out, it->told.told.length);
+    answer got = answered(&it->asked, out, it->told.told.length);
     if (!are_same(got, it->told))
-        fail("another thread has another answer", it->asked, got.code);
+        fail("another thread has another answer", &it->asked, got.code);
     __real_free(out);
     return NULL;
 }
 
-static void *nothing_on_thread(void *given)
-{
-    return given;
-}
+static void *nothing_on_thread(void *given) { return given; }
 
 static size_t stack_of(void *(*body)(void *), run *given)
 {
@@ -279,7 +261,7 @@ static size_t stack_of(void *(*body)(void *), run *given)
     pthread_attr_init(&how);
     pthread_attr_setstack(&how, stack, size);
     if (pthread_create(&thread, &how, body, given) != 0)
-        fail("no thread", given->asked, 0);
+        fail("no thread", &given->asked, 0);
     pthread_join(thread, NULL);
     pthread_attr_destroy(&how);
     lowest = 0;
@@ -290,42 +272,36 @@ static size_t stack_of(void *(*body)(void *), run *given)
 
 static size_t most_stack[CBORN_MOST_DEPTH + 1];
 
-static void test_stack(const call *asked, answer told)
+static void test_stack(run *it)
 {
     static size_t bare;
-    run it = {asked, told};
     if (bare == 0)
-        bare = stack_of(nothing_on_thread, &it);
-    size_t used = stack_of(answered_on_thread, &it) - bare;
-    if (asked->depth <= CBORN_MOST_DEPTH && used > most_stack[asked->depth])
-        most_stack[asked->depth] = used;
-    if (told.code != CBORN_BAD_ARGUMENT && used > CBORN_STACK(asked->depth))
-        fail("more stack than CBORN_STACK", asked, (long)used);
+        bare = stack_of(nothing_on_thread, it);
+    size_t used = stack_of(answered_on_thread, it) - bare;
+    unsigned long depth = it->asked.depth;
+    if (depth <= CBORN_MOST_DEPTH && used > most_stack[depth])
+        most_stack[depth] = used;
+    if (it->told.code != CBORN_BAD_ARGUMENT && used > CBORN_STACK(depth))
+        fail("more stack than CBORN_STACK", &it->asked, (long)used);
 }
 
-static call *calls;
-static answer *answers;
+static run *runs;
 static size_t count;
 
-static void keep(call asked, answer told)
+static void keep(run it)
 {
-    calls = __real_realloc(calls, (count + 1) * sizeof *calls);
-    answers = __real_realloc(answers, (count + 1) * sizeof *answers);
-    if (calls == NULL || answers == NULL)
+    runs = __real_realloc(runs, (count + 1) * sizeof *runs);
+    if (runs == NULL)
         fail("no memory to test with", NULL, (long)count);
-    calls[count] = asked;
-    answers[count++] = told;
+    runs[count++] = it;
 }
 
 static void *all_on_thread(void *given)
 {
     for (int round = 0; round < ROUNDS; round++)
-        for (size_t i = 0; i < count; i++) {
-            /* each thread begins elsewhere, so that different calls meet */
-            size_t at = (i + (size_t)given * count / THREADS) % count;
-            run it = {&calls[at], answers[at]};
-            answered_on_thread(&it);
-        }
+        /* each thread begins elsewhere, so that different calls meet */
+        for (size_t i = 0; i < count; i++)
+            answered_on_thread(&runs[(i + (size_t)given * count / THREADS) % count]);
     return NULL;
 }
 
@@ -370,23 +346,13 @@ static bool parsed(const char *line, call *asked, char *first, char *second)
 {
     memset(asked, 0, sizeof *asked);
     *first = *second = 0;
-    sscanf(line, "%15s", asked->name);
+    int count = sscanf(line, "%15s %u %u %u %lu %u %lu %4095s %4095s", asked->name, &asked->from, &asked->to, &asked->order, &asked->depth,
+                       &asked->number, &asked->place, first, second);
     char *suffix = strstr(asked->name, "-one");
     asked->one = suffix != NULL;
     if (asked->one)
         *suffix = 0;
-    if (is_called(asked, "normalise"))
-        return sscanf(line, "%*s %u %u %u %lu %4095s", &asked->from, &asked->to, &asked->order, &asked->depth, first) == 5;
-    if (is_called(asked, "show"))
-        return sscanf(line, "%*s %u %u %lu %4095s", &asked->from, &asked->to, &asked->depth, first) == 4;
-    if (is_called(asked, "check"))
-        return sscanf(line, "%*s %u %lu %4095s", &asked->order, &asked->depth, first) == 3;
-    if (is_called(asked, "end"))
-        return sscanf(line, "%*s %lu %lu %4095s", &asked->depth, &asked->place, first) == 3;
-    if (is_called(asked, "explain"))
-        return sscanf(line, "%*s %u %lu %u %lu %4095s", &asked->from, &asked->depth, &asked->number, &asked->place, first) == 5;
-    return (is_called(asked, "compare") || is_called(asked, "same")) &&
-           sscanf(line, "%*s %u %u %lu %4095s %4095s", &asked->from, &asked->to, &asked->depth, first, second) == 5;
+    return count == (is_called(asked, "words") ? 7 : is_called(asked, "compare") || is_called(asked, "same") ? 9 : 8);
 }
 
 /* A place beyond the end counts as the end, where one is explained, and what is no argument leaves all as it was. */
@@ -449,13 +415,12 @@ int main(void)
     while (fgets(line, sizeof line, stdin)) {
         call asked;
         uint8_t *out;
-        unsigned number;
-        if (sscanf(line, "words %u", &number) == 1) {
-            tell_words(number);
-            continue;
-        }
         if (!parsed(line, &asked, first, second))
             fail(line, NULL, 0);
+        if (is_called(&asked, "words")) {
+            tell_words(asked.number);
+            continue;
+        }
         asked.first = opened(first);
         if (*second)
             asked.second = opened(second);
@@ -471,9 +436,10 @@ int main(void)
         if (told.code == CBORN_OK && has_output(&asked))
             test_longer_buffer(&asked, told, out);
         growths += test_growths(&asked, told, out);
-        test_stack(&asked, told);
+        run it = {asked, told};
+        test_stack(&it);
         if (asked.first.length <= SHORT)
-            keep(asked, told);
+            keep(it);
         if (out)
             unguard(out, told.told.length);
     }

@@ -4,28 +4,25 @@
     library.py PROGRAM FOLDER
 
 FOLDER has libcborn.a and python/cborn, the package. An answer of the library is written as the program would print it, and
-compared with the table and with what the program prints. The number of a fault is compared with the program's words, by
-way of include/cborn.h, docs/FORMATS.md and the bindings. Each number has to occur. Nests of arrays, maps and tags under
-the least, the usual and the largest limit are tried, too. `python -m cborn` has to do the command lines of the tables as
-the program does, but reads one file and has no -o. The explanation of each input that is refused or isn't deterministic is
-what the program writes with --explain after its first line. Short inputs of bytes are cut into their items. library.c, which
-is compiled by $CC or cc, says what else is tested. Command lines that are no call (with files that fail, or for help) are
-counted.
+compared with the table and with what the program prints, and so is each explanation. The number of a fault is compared with
+the program's words, by way of include/cborn.h, docs/FORMATS.md and the bindings. Each number has to occur. Nests under the
+least, the usual and the largest limit are tried, too, and short inputs of bytes are cut into their items. `python -m cborn`
+has to do the command lines of the tables as the program does, but reads one file and has no -o. library.c, which is compiled
+by $CC or cc, says what else is tested. Command lines that are no call (with files that fail, or for help) are counted.
 """
 import argparse
 import collections
 import copy
 import itertools
 import mmap
-import os
 import pathlib
 import re
 import subprocess
 import sys
 import tempfile
 
-from reading import head
 import shared
+from reading import chunked, embedded, head
 from run import FORMS, Case, Outcome, cases, listed, single_runs, tables_in
 
 HERE = pathlib.Path(__file__).resolve().parent
@@ -41,26 +38,17 @@ OF_PROGRAM = ("several.table", "output.table")
 WRAPPED = "-Wl,--wrap=malloc,--wrap=realloc,--wrap=free"
 
 
-def words_of_header():
-    """The words of each number of a fault in the header: the comment after it."""
-    text = (TOP / "include/cborn.h").read_text()
-    return {int(n, 16): words for n, words in re.findall(r"= (0x[0-9a-f]{3}),\s*/\* (.*?) \*/", text)}
+# the words of each number of a fault: the comment in the header, a row of the page up to what explains it, and those in Rust
+WORDS = {
+    "header": ("include/cborn.h", r"= (0x[0-9a-f]{3}),\s*/\* (.*?) \*/"),
+    "page": ("docs/FORMATS.md", r"^\| `(0x[0-9a-f]{3})` \| ([^|:,]+?)(?:[:,][^|]*)? \|"),
+    "rust": ("bindings/rust/src/reasons.rs", r' = (0x[0-9a-f]{3}), "(.*?)";'),
+}
 
 
-def words_of_page():
-    """Those in the documents: | `0x101` | words |, up to what explains them."""
-    text = (TOP / "docs/FORMATS.md").read_text()
-    return {int(n, 16): words for n, words in re.findall(r"^\| `(0x[0-9a-f]{3})` \| ([^|:,]+?)(?:[:,][^|]*)? \|", text, re.MULTILINE)}
-
-
-def words_of_rust():
-    text = (TOP / "bindings/rust/src/reasons.rs").read_text()
-    return {int(n, 16): words for n, words in re.findall(r' = (0x[0-9a-f]{3}), "(.*?)";', text)}
-
-
-def stack_of(path):
-    """The figures of the stack in a file."""
-    return [it.replace("(", "").replace(")", "") for it in re.findall(r"\d+ \+ \d+ \* \(?depth\)?", path.read_text())]
+def words_in(name):
+    path, row = WORDS[name]
+    return {int(n, 16): words for n, words in re.findall(row, (TOP / path).read_text(), re.MULTILINE)}
 
 
 class Options(argparse.ArgumentParser):
@@ -71,9 +59,8 @@ class Options(argparse.ArgumentParser):
 def parser():
     words = Options(add_help=False)
     words.add_argument("command", choices=("normalise", "show", "check", "compare"))
-    words.add_argument("--from", dest="source", choices=KINDS, default="wire")
-    words.add_argument("--from-a", choices=KINDS, default="wire")
-    words.add_argument("--from-b", choices=KINDS, default="wire")
+    for name, of_input in (("--from", "source"), ("--from-a", "from_a"), ("--from-b", "from_b")):
+        words.add_argument(name, dest=of_input, choices=KINDS, default="wire")
     words.add_argument("--to", choices=("wire", "notation"))
     words.add_argument("--order", choices=ORDERS, default="bytewise")
     words.add_argument("--depth", type=int, default=128)
@@ -93,10 +80,7 @@ def parsed(case):
         return None
     if case.status == 3 and 1 <= asked.depth <= 1024:
         return None
-    if asked.command == "compare":
-        if len(asked.files) != 2:
-            return None
-    elif not asked.files:
+    if asked.command != "compare" and not asked.files:
         pathlib.Path(case.folder, "standard-input").write_bytes(case.stdin)
         asked.files = ["standard-input"]
     asked.files = [pathlib.Path(case.folder, name) for name in asked.files]
@@ -106,14 +90,15 @@ def parsed(case):
 
 def line_of(asked, command=None):
     """The call for library.c: the command that is asked for, or another one with the same options."""
-    kinds = {
-        "normalise": lambda: (KINDS[asked.source], KINDS[asked.to or "wire"], ORDERS[asked.order]),
-        "show": lambda: (KINDS[asked.source], KINDS[asked.to or "notation"]),
-        "check": lambda: (ORDERS[asked.order],),
-        "compare": lambda: (KINDS[asked.from_a], KINDS[asked.from_b]),
-    }
     name = f"{asked.command}-one" if asked.one else command or asked.command
-    return " ".join(map(str, (name, *kinds[asked.command](), asked.depth, *asked.files)))
+    written = asked.to or ("notation" if asked.command == "show" else "wire")
+    kinds = (asked.from_a, asked.from_b) if asked.command == "compare" else (asked.source, written)
+    return call_of(name, asked.depth, *asked.files, kinds=[KINDS[kind] for kind in kinds], order=ORDERS[asked.order])
+
+
+def call_of(name, depth, *files, kinds=(0, 0), order=0, number=0, place=0):
+    """The line of a call for library.c."""
+    return " ".join(map(str, (name, *kinds, order, depth, number, place, *files)))
 
 
 def mapped(path):
@@ -126,12 +111,9 @@ class InC:
     """The library, called by library.c."""
 
     def __init__(self, folder, build):
-        self.program = f"{folder}/library"
-        compiler = os.environ.get("CC", "cc")
         flags = ["-std=c11", "-O2", "-Wall", "-Wextra", "-Werror", "-pthread", f"-I{TOP}/include", WRAPPED]
-        sources = [str(HERE / "library.c"), f"{build}/libcborn.a"]
-        subprocess.run([compiler, *flags, "-o", self.program, *sources], check=True)
-        self.child = subprocess.Popen([self.program], stdin=subprocess.PIPE, stdout=subprocess.PIPE)
+        program = shared.compiled(f"{folder}/library", *flags, HERE / "library.c", f"{build}/libcborn.a")
+        self.child = subprocess.Popen([program], stdin=subprocess.PIPE, stdout=subprocess.PIPE)
 
     def line(self, line):
         """What a line of standard input is answered."""
@@ -149,36 +131,40 @@ class InC:
     def answer(self, asked):
         return self.line(line_of(asked))
 
-    def same(self, asked):
-        """What cborn_same answers where cborn_compare is asked for, or cborn_compare_one once more."""
-        return self.line(line_of(asked, "same"))
-
-    def in_second_notation(self, asked):
-        """The answer where a command line that asks for notation asks for the second kind of it, which is written as the first is."""
-        second = copy.copy(asked)
-        second.to = "notation-2"
-        return self.answer(second)
+    def contradictions(self, asked, answer):
+        """What is wrong with what has to answer the same: cborn_same, where cborn_compare is asked for (or cborn_compare_one once
+        more), and the second notation, which is written as the first is."""
+        code, place, out = answer
+        if asked.command == "compare":
+            same = self.line(line_of(asked, "same"))
+            if same != (code, 0 if code == DIFFERENT else place, out):
+                yield f"cborn_same answers {same}, cborn_compare {answer}"
+        if asked.to == "notation":
+            second = copy.copy(asked)
+            second.to = "notation-2"
+            if (other := self.answer(second)) != answer:
+                yield f"to the second notation another answer comes: {other}"
 
     def explained(self, asked, answer):
         """What cborn_explain writes on the fault or the defect that was reported."""
         code, place, _ = answer
         which = code // OF_SECOND
         kind = KINDS[(asked.from_a, asked.from_b)[which] if asked.command == "compare" else asked.source]
-        answer = self.line(f"explain {kind} {asked.depth} {code} {place} {asked.files[which]}")
+        answer = self.line(call_of("explain", asked.depth, asked.files[which], kinds=(kind, 0), number=code, place=place))
         return answer[2] if answer[:2] == (0, 0) else answer
 
     def ends(self, depth, path):
         """Where the items of a file of bytes end, by cborn_item_end, and what is answered after the last."""
         ends = [0]
-        code, place, _ = self.line(f"end {depth} 0 {path}")
-        while code == 0 and place > ends[-1]:
+        while True:
+            code, place, _ = self.line(call_of("end", depth, path, place=ends[-1]))
+            if code != 0 or place <= ends[-1]:
+                return ends, (code, place)
             ends.append(place)
-            code, place, _ = self.line(f"end {depth} {place} {path}")
-        return ends, (code, place)
 
     def words(self, numbers):
         """The words of those of these numbers that have some."""
-        told = {number: self.line(f"words {number}") for number in numbers}
+        told = {number: self.line(call_of("words", 0, number=number)) for number in numbers}
         return {number: words.decode() for number, (code, _, words) in told.items() if code == 0}
 
     def end(self):
@@ -195,10 +181,6 @@ class InPython:
         import cborn
 
         self.cborn = cborn
-
-    def words(self):
-        """The words of each number of a fault."""
-        return {reason.number: str(reason) for reason in self.cborn.Reason if reason.number > 0xFF}
 
     def called(self, asked, inputs):
         cborn, source, order = self.cborn, KINDS[asked.source], ORDERS[asked.order]
@@ -241,13 +223,11 @@ class InPython:
         told, refused = self.refused(self.called, asked, inputs)
         if asked.command in ("check", "compare") and self.refused(self.shortly, asked, inputs) != (None if refused else told is None, refused):
             raise AssertionError(f"the call that only says whether says otherwise: {asked}")
-        if refused:
-            return refused
+        if refused or told is None:
+            return refused or (0, 0, b"")
         if asked.command == "check":
-            return (0, 0, b"") if told is None else (told.reason.number, told.place, b"")
-        if asked.command == "compare":
-            return (0, 0, b"") if told is None else (DIFFERENT, told, b"")
-        return 0, 0, told
+            return told.reason.number, told.place, b""
+        return (DIFFERENT, told, b"") if asked.command == "compare" else (0, 0, told)
 
 
 def printed(asked, answer, words):
@@ -302,22 +282,6 @@ Nest = collections.namedtuple("Nest", "name kind data wire shortest text canonic
 def spelled(name, data, text):
     """A nest of bytes that are deterministic."""
     return Nest(name, "wire", data, data, data, text, text, "deterministic")
-
-
-def embedded(levels):
-    """What `<<` and `>>` stand for, so many times in one another."""
-    item = b""
-    for _ in range(levels):
-        item = head(2, len(item)) + item
-    return item
-
-
-def chunked(levels):
-    """What `(_ ''<<` and `>>)` stand for, so many times in one another."""
-    item = b""
-    for _ in range(levels):
-        item = b"\x5f" + head(2, len(item)) + item + b"\xff"
-    return item
 
 
 def nests_of(depth):
@@ -384,34 +348,24 @@ def twice(depth):
         yield f"keys of {depth}", [("case", "keys"), ("file", f"nest hex {data.hex()}"), run, stderr, ("status", "2")]
 
 
-class AsProgram:
-    """`python -m cborn`, run as the program is."""
-
-    def __init__(self, folder, build):
-        self.path = pathlib.Path(folder, "cborn")
-        self.path.write_text(f'#!/bin/sh\nPYTHONPATH="{build}/python" exec "{sys.executable}" -m cborn "$@"\n')
-        self.path.chmod(0o755)
-
-    def differences(self, case):
-        """What is wrong with what it does. Its help, and what it says of a wrong command line, are its own."""
-        outcome = case.run(self.path)
-        is_own = case.status == 3 or any(it in case.words for it in ("--help", "-h"))
-        if not is_own:
-            yield from case.differences(outcome)
-        elif outcome.status != case.status or bool(outcome.stdout) == bool(outcome.stderr):
-            yield f"status is {outcome.status}, not {case.status}: {outcome.stdout!r} {outcome.stderr!r}"
-
-
 def through_python(build, runs):
-    """How many of these runs of the tables `python -m cborn` was given, and what is wrong with what it does."""
-    wrong = []
+    """How many of these runs of the tables `python -m cborn` was given, and what is wrong with what it does. Its help, and what it
+    says of a wrong command line, are its own."""
+    count, wrong = 0, []
     with tempfile.TemporaryDirectory() as folder:
-        as_program = AsProgram(folder, build)
-        for table, lines in runs:
-            with tempfile.TemporaryDirectory() as place:
-                case = Case(lines, place)
-                wrong += [f"{table}: {case.name}: python -m cborn: {line}" for line in as_program.differences(case)]
-    return len(runs), wrong
+        program = pathlib.Path(folder, "cborn")
+        program.write_text(f'#!/bin/sh\nPYTHONPATH="{build}/python" exec "{sys.executable}" -m cborn "$@"\n')
+        program.chmod(0o755)
+        for table, case in cases(runs):
+            outcome, count = case.run(program), count + 1
+            if case.status != 3 and not {"--help", "-h"} & {*case.words}:
+                lines = list(case.differences(outcome))
+            elif outcome.status != case.status or bool(outcome.stdout) == bool(outcome.stderr):
+                lines = [f"status is {outcome.status}, not {case.status}: {outcome.stdout!r} {outcome.stderr!r}"]
+            else:
+                continue
+            wrong += [f"{table}: {case.name}: python -m cborn: {line}" for line in lines]
+    return count, wrong
 
 
 def uncut(asked, callers):
@@ -424,7 +378,7 @@ def uncut(asked, callers):
     for piece in pieces:
         if cborn.spell(piece, cborn.Kind.WIRE, asked.depth, True) != piece:
             yield f"cborn_item_end gives {piece.hex()}, which isn't one item"
-    whole = callers["C"].line(f"show 0 0 {asked.depth} {path}")
+    whole = callers["C"].line(call_of("show", asked.depth, path))
     if last != ((NO_ITEM, len(data)) if whole[0] == 0 else whole[:2]):
         yield f"after the items cborn_item_end answers {last}, and cborn_show {whole[:2]}"
     found, refused = [], None
@@ -442,12 +396,6 @@ def is_cut(asked):
     return asked.command != "compare" and asked.source == "wire" and 1 <= asked.depth <= 1024 and asked.files[0].stat().st_size <= SHORT
 
 
-def of_same(answer):
-    """What cborn_same answers where cborn_compare answers so."""
-    code, place, out = answer
-    return code, 0 if code == DIFFERENT else place, out
-
-
 def tables_of_words(met, callers):
     """What is wrong with the tables of numbers."""
     in_c = callers["C"].words(range(0x800))
@@ -457,35 +405,30 @@ def tables_of_words(met, callers):
     beside = {number: in_c.pop(number, None) for number in range(0x100)}
     if {n: words for n, words in beside.items() if words} != {OUT_OF_MEMORY: "out of memory", TOO_LONG: "input too long"}:
         yield f"cborn_words has other words for what is no fault of the content: {beside}"
-    tables = {"header": words_of_header(), "page": words_of_page(), "python": callers["Python"].words(), "rust": words_of_rust(), "cborn_words": in_c}
+    in_python = {reason.number: str(reason) for reason in callers["Python"].cborn.Reason if reason.number > 0xFF}
+    tables = {**{name: words_in(name) for name in WORDS}, "python": in_python, "cborn_words": in_c}
     for name, words in tables.items():
         for number in sorted({*words, *tables["header"]}):
             if words.get(number) != tables["header"].get(number):
                 yield f"{number:#x} is {words.get(number)!r} in the table of {name}, {tables['header'].get(number)!r} in the header"
     for number in sorted(set(tables["header"]) - met):
         yield f"no command line has the fault {number:#x}"
-    figures = {name: stack_of(TOP / name) for name in ("include/cborn.h", "bindings/rust/src/calls.rs", "bindings/python/cborn/__init__.py")}
-    if any(len(set(found)) != 1 for found in figures.values()) or len(set(itertools.chain(*figures.values()))) != 1:
+    files = ("include/cborn.h", "bindings/rust/src/calls.rs", "bindings/python/cborn/__init__.py")
+    figures = {name: set(re.findall(r"(\d+) \+ (\d+) \* \(?depth\)?", (TOP / name).read_text())) for name in files}
+    if any(len(found) != 1 for found in figures.values()) or len(set().union(*figures.values())) != 1:
         yield f"the stack hasn't one figure in each: {figures}"
-
-
-def all_cases(folder):
-    yield from cases(listed(tables_in(HERE, FORMS)))
-    for name, lines in itertools.chain(nests(), *map(twice, (2, 128, 1024))):
-        with tempfile.TemporaryDirectory(dir=folder) as place:
-            yield name, Case(lines, place)
 
 
 def main():
     program, build = (str(pathlib.Path(word).resolve()) for word in sys.argv[1:])
-    words, met = words_of_header(), set()
+    words, met = words_in("header"), set()
     own = [table for table in tables_in(HERE) if table.name not in OF_PROGRAM]
     runs = ((table, run) for table, lines in listed(own) for run in single_runs(lines))
     through, wrong = shared.over_processors(through_python, runs, build, at_once=16)
     with tempfile.TemporaryDirectory() as folder:
         callers = {"C": InC(folder, build), "Python": InPython(build)}
         passed = others = explained = cut = 0
-        for table, case in all_cases(folder):
+        for table, case in cases(itertools.chain(listed(tables_in(HERE, FORMS)), nests(), *map(twice, (2, 128, 1024)))):
             asked = parsed(case)
             if asked is None:
                 others += 1
@@ -494,10 +437,8 @@ def main():
             before = len(wrong)
             for name, caller in callers.items():
                 answer = caller.answer(asked)
-                if name == "C" and asked.command == "compare" and caller.same(asked) != of_same(answer):
-                    wrong.append(f"{table}: {case.name}: cborn_same answers {caller.same(asked)}, cborn_compare {answer}")
-                if name == "C" and asked.to == "notation" and caller.in_second_notation(asked) != answer:
-                    wrong.append(f"{table}: {case.name}: to the second notation another answer comes: {caller.in_second_notation(asked)}")
+                if name == "C":
+                    wrong += [f"{table}: {case.name}: {line}" for line in caller.contradictions(asked, answer)]
                 met.add(answer[0] % OF_SECOND)
                 if not asked.explain:
                     wrong += [f"{table}: {case.name}: from {name}: {line}" for line in differences(case, asked, answer, words, done)]

@@ -11,13 +11,28 @@ BYTES, TEXT, ARRAY, MAP, TAG, SIMPLE = 2, 3, 4, 5, 6, 7
 POSITIVE_BIGNUM, NEGATIVE_BIGNUM = 2, 3
 
 
-def head(major, number, width=None):
-    """The head of a number: with the argument in so many bytes, or the shortest."""
-    if width is None:
-        width = 0 if number < DIRECT else 1 if number < 1 << 8 else 2 if number < 1 << 16 else 4 if number < 1 << 32 else 8
+def head(major, number, least=None):
+    """The head of a number: the shortest, or the shortest of those whose argument has at least so many bytes."""
+    shortest = 0 if number < DIRECT else next(width for width in WIDTHS.values() if number >> 8 * width == 0)
+    width = max(shortest, least or 0)
     if width == 0:
         return bytes([major << 5 | number])
     return bytes([major << 5 | 23 + width.bit_length()]) + number.to_bytes(width, "big")
+
+
+def embedded(levels, item=b""):
+    """What `<<` and `>>` around the text of an item stand for, so many times in one another."""
+    for _ in range(levels):
+        item = head(BYTES, len(item)) + item
+    return item
+
+
+def chunked(levels):
+    """What `(_ ''<<` and `>>)` stand for, so many times in one another."""
+    item = b""
+    for _ in range(levels):
+        item = b"\x5f" + head(BYTES, len(item)) + item + b"\xff"
+    return item
 
 
 class Bytes:
@@ -26,23 +41,20 @@ class Bytes:
     def __init__(self, content):
         self.content, self.place, self.defects = content, 0, []
 
-    def defect(self, place, rank, words):
-        self.defects.append((place, rank, words))
-
     def head(self):
         """Major type and argument of the next head: no argument where the length is indefinite."""
         place, first = self.place, self.content[self.place]
         major, info = first >> 5, first & 31
         self.place += 1
         if info == INDEFINITE:
-            self.defect(place, 2, "indefinite length")
+            self.defects.append((place, 2, "indefinite length"))
             return major, None
         width = WIDTHS.get(info, 0)
         number = int.from_bytes(self.content[self.place : self.place + width], "big") if width else info
         self.place += width
         # the second byte of a simple value is no argument: it has one form
         if major != SIMPLE and head(major, number) != self.content[place : self.place]:
-            self.defect(place, 1, "long head")
+            self.defects.append((place, 1, "long head"))
         return major, number
 
     def string(self, length):
@@ -71,7 +83,7 @@ class Bytes:
             place = self.place
             key = self.item()
             if pairs and key <= before:
-                self.defect(place, 4, "key order")
+                self.defects.append((place, 4, "key order"))
             pairs[key] = self.item()
             before = key
         return pairs
@@ -81,7 +93,7 @@ class Bytes:
             return head(TAG, number) + self.item()
         magnitude = self.string(self.head()[1])
         if len(magnitude) <= 8 or magnitude[0] == 0:
-            self.defect(place, 3, "loose bignum")
+            self.defects.append((place, 3, "loose bignum"))
         return integer(int.from_bytes(magnitude, "big"), number == NEGATIVE_BIGNUM)
 
     def item(self):

@@ -74,34 +74,28 @@ class Case:
         self.before = self.state() if self.saves else None
 
     def read(self, word, rest):
+        name, _, what = rest.partition(" ")
+        path = pathlib.Path(self.folder, name)
         if word == "case":
             self.name = rest
+        elif (word, what) == ("file", "folder"):
+            path.mkdir()
         elif word == "file":
-            name, _, what = rest.partition(" ")
-            path = pathlib.Path(self.folder, name)
-            if what == "folder":
-                path.mkdir()
-            else:
-                path.write_bytes(given_bytes(what))
+            path.write_bytes(given_bytes(what))
         elif word == "length":
-            name, _, length = rest.partition(" ")
-            os.truncate(pathlib.Path(self.folder, name), int(length))
+            os.truncate(path, int(what))
         elif word == "mode":
-            name, _, mode = rest.partition(" ")
-            os.chmod(pathlib.Path(self.folder, name), int(mode, 8))
+            path.chmod(int(what, 8))
         elif word == "link":
-            name, _, target = rest.partition(" ")
-            pathlib.Path(self.folder, name).symlink_to(target)
+            path.symlink_to(what)
         elif word == "left":
-            name, _, what = rest.partition(" ")
             self.changes[name] = given_bytes(what)
         elif word == "stdin":
             self.stdin = given_bytes(rest)
         elif (word, rest) == ("input", "failing"):
             self.is_failing = True
         elif word == "output":
-            self.output, _, room = rest.partition(" ")
-            self.room = int(room) if room else None
+            self.output, self.room = name, int(what) if what else None
         elif word == "run":
             self.name, self.words = f"{self.name}: {rest}", shlex.split(rest)
         elif word == "argument":
@@ -119,17 +113,8 @@ class Case:
         """What the program writes, and its status."""
         with contextlib.ExitStack() as opened:
             to = self.standard_output(opened)
-            done = subprocess.run(
-                [program, *self.words],
-                cwd=self.folder,
-                stdout=to,
-                stderr=subprocess.PIPE,
-                timeout=60,
-                check=False,
-                preexec_fn=None if self.room is None else self.limit_files,
-                **self.standard_input(opened),
-                **how,
-            )
+            how |= {"cwd": self.folder, "preexec_fn": None if self.room is None else self.limit_files, **self.standard_input(opened)}
+            done = subprocess.run([program, *self.words], stdout=to, stderr=subprocess.PIPE, timeout=60, check=False, **how)
             written = done.stdout if self.room is None else os.pread(to, self.room + 1, 0)
         return Outcome(written or b"", done.stderr, done.returncode, self.left())
 
@@ -258,15 +243,10 @@ def told(content):
 
 def paragraphs(path):
     """The cases of a table: lists of (word, rest)."""
-    lines = []
-    for line in [*path.read_text().splitlines(), ""]:
-        if not line.strip():
-            if lines:
-                yield lines
-            lines = []
-        elif not line.startswith("#"):
-            word, _, rest = line.partition(" ")
-            lines.append((word, rest))
+    for _, paragraph in itertools.groupby(path.read_text().splitlines(), lambda line: not line.strip()):
+        lines = [line.partition(" ")[::2] for line in paragraph if line.strip() and not line.startswith("#")]
+        if lines:
+            yield lines
 
 
 def single_runs(lines):

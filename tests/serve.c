@@ -2,7 +2,7 @@
 
    Before it begins, the program takes requests from the socket SERVE. Each is a run: a child that goes on as the program
    would, with the words of the request after its own. Standard input, output and error are files, and the client fills,
-   empties and reads them. The lines of refuse.c or trouble.c on the run go to the same socket. When the child has ended, a
+   empties and reads them. The lines of trouble.c on the run go to the same socket. When the child has ended, a
    line '= STATUS' does. It is negative if a signal ended the child.
 
    A request is one packet of texts, each followed by a zero byte: the folder to run in, the settings 'NAME=VALUE'
@@ -23,7 +23,7 @@
 /* the status where a request couldn't be carried out */
 #define UNSERVED 99
 
-/* of refuse.c or trouble.c, where one is loaded with this: it looks at the environment */
+/* of trouble.c, where that is loaded with this: it looks at the environment */
 __attribute__((weak)) void begin(void);
 
 static char *words[WORDS];

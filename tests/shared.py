@@ -1,7 +1,6 @@
-"""Runs that are shared out over the processors, the libraries that the loader puts in front of the C library, and a program that
-stands ready for its runs by one of them."""
+"""Runs that are shared out over the processors, the libraries that the loader puts in front of the C library, a program that
+stands ready for its runs by one of them, and what compiles C."""
 import concurrent.futures
-import contextlib
 import itertools
 import os
 import pathlib
@@ -11,18 +10,15 @@ import tempfile
 
 from run import Outcome
 
-# more than a line of serve.c, refuse.c or trouble.c has
+HERE = pathlib.Path(__file__).resolve().parent
+# more than a line of serve.c or trouble.c has
 LINE = 256
 
 
-@contextlib.contextmanager
-def library(*sources):
-    """The path of a library, which $CC or cc makes of C files of this folder."""
-    with tempfile.TemporaryDirectory() as folder:
-        path = f"{folder}/library.so"
-        files = [str(pathlib.Path(__file__).resolve().parent / source) for source in sources]
-        subprocess.run([os.environ.get("CC", "cc"), "-O2", "-shared", "-fPIC", "-o", path, *files, "-ldl"], check=True)
-        yield path
+def compiled(made, *words):
+    """The path of what $CC or cc makes of C."""
+    subprocess.run([os.environ.get("CC", "cc"), "-o", made, *map(str, words)], check=True)
+    return made
 
 
 class Served:
@@ -36,14 +32,8 @@ class Served:
         number = str(theirs.fileno())
         # the page faults of an input of 1 GB cost more than what is done with it: where it can be, its pages are great ones
         settings = {"LD_PRELOAD": library, "SERVE": number, "TELL": number, "GLIBC_TUNABLES": "glibc.malloc.hugetlb=1"}
-        self.process = subprocess.Popen(
-            [program],
-            stdin=self.stdin,
-            stdout=self.stdout,
-            stderr=self.stderr,
-            env={**os.environ, **settings},
-            pass_fds=[theirs.fileno()],
-        )
+        how = {"env": {**os.environ, **settings}, "pass_fds": [theirs.fileno()]}
+        self.process = subprocess.Popen([program], stdin=self.stdin, stdout=self.stdout, stderr=self.stderr, **how)
         theirs.close()
 
     def __enter__(self):
@@ -105,6 +95,25 @@ def over_processors(tried, runs, *given, at_once=1):
         parts = [pool.submit(tried, *given, some) for some in iter(lambda: list(itertools.islice(runs, at_once)), [])]
         *numbers, wrong = zip(*(part.result() for part in parts))
     return [*map(sum, numbers), list(itertools.chain.from_iterable(wrong))]
+
+
+def tried(find, library, program, those):
+    """Some runs of a program that stands ready: how many, how many failed, how many attempts they were, and what is wrong."""
+    runs = failed = attempts = 0
+    wrong = []
+    with Served(library, program) as served:
+        for name, count, lines in find(served, those):
+            runs, failed, attempts = runs + 1, failed + bool(lines), attempts + count
+            wrong += [f"{name}: {line}" for line in lines]
+    return runs, failed, attempts, wrong
+
+
+def served_over_processors(find, runs, program, *sources, at_once=1):
+    """The sums and lines of `tried` for so many runs at once, by a library of these C files of this folder. `find(served, some)`
+    yields of each its name, how many attempts it was, and the lines of what is wrong."""
+    with tempfile.TemporaryDirectory() as folder:
+        made = compiled(f"{folder}/library.so", "-O2", "-shared", "-fPIC", *(HERE / source for source in sources), "-ldl")
+        return over_processors(tried, runs, find, made, str(pathlib.Path(program).resolve()), at_once=at_once)
 
 
 def status(count, wrong, summary):

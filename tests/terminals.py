@@ -10,6 +10,7 @@ same. So this catches a hint that a script gets, or that a person doesn't.
 Of runs with both streams on a terminal those that write CBOR bytes there get a hint before them. A terminal, a pipe and a file must
 get the same bytes, with the same status.
 """
+import contextlib
 import os
 import pathlib
 import pty
@@ -38,12 +39,8 @@ LONG = b"1 2\n" * 50_000
 # arguments, standard input, the lines for any reader, those for a person alone, the status
 CASES = (
     # RFC 8949 section 3: each of these bytes is an integer
-    ("show", b"8301\n", [], [HEXADECIMAL], 0),
-    ("check", b"8301\n", [], [HEXADECIMAL], 0),
-    ("normalise", b"8301\n", [], [HEXADECIMAL], 0),
-    ("show digits", b"", [], [HEXADECIMAL], 0),
-    ("check digits", b"", [], [HEXADECIMAL], 0),
-    ("normalise digits", b"", [], [HEXADECIMAL], 0),
+    *((words, b"8301\n", [], [HEXADECIMAL], 0) for words in ("show", "check", "normalise")),
+    *((words, b"", [], [HEXADECIMAL], 0) for words in ("show digits", "check digits", "normalise digits")),
     ("compare digits digits", b"", [], ["first: " + HEXADECIMAL, "second: " + HEXADECIMAL], 0),
     ("compare digits text", b"", [], ["first: " + HEXADECIMAL, "second: " + NOTATION], 1),
     ("compare items text", b"", [], ["second: " + NOTATION], 1),
@@ -62,23 +59,15 @@ CASES = (
     ("check", b"8\n", [], [NOTATION], 1),
     ("check --order length-first", b"1\n", [], [NOTATION], 0),
     ("show", LONG, [], [HEXADECIMAL], 0),
-    ("show", LONG + b"1\n", [], [NOTATION], 0),
-    ("show", LONG + b",\n", [], [NOTATION], 0),
-    ("show", b",\n" + LONG, [], [NOTATION], 0),
+    *(("show", given, [], [NOTATION], 0) for given in (LONG + b"1\n", LONG + b",\n", b",\n" + LONG)),
     # the last line isn't ended, of hexadecimal and of another text; a byte that no text has, first, last and far in
     ("show", b"8301", [], [HEXADECIMAL], 0),
     ("check", b"83 01", [], [HEXADECIMAL], 0),
     ("normalise", b"38313031", [], [HEXADECIMAL], 0),
-    ("show", b"831", [], [], 0),
-    ("show", b"1 -2", [], [], 0),
+    *(("show", given, [], [], 0) for given in (b"831", b"1 -2")),
     ("compare items bare", b"", [], ["second: " + HEXADECIMAL], 1),
-    ("show", b"\x01\n", [], [], 0),
-    ("show", b"1\x01", [], [], 0),
-    ("show", LONG + b"\x00\n", [], [], 0),
-    ("show", b"\x00" + LONG, [], [], 0),
-    ("show", b"", [], [], 0),
-    ("check items", b"", [], [], 0),
-    ("compare items items", b"", [], [], 0),
+    *(("show", given, [], [], 0) for given in (b"\x01\n", b"1\x01", LONG + b"\x00\n", b"\x00" + LONG, b"")),
+    *((words, b"", [], [], 0) for words in ("check items", "compare items items")),
     # what is read as notation is no text by mistake
     ("show --from notation", b"8301\n", [], [], 0),
     ("normalise --from notation-2 text", b"", [], [], 0),
@@ -101,11 +90,9 @@ CASES = (
     # a file that isn't there is no refusal
     ("compare text none", b"", ["cborn: second: cannot read none"], [], 4),
     # a folder can be opened, and not read or replaced
-    ("check .", b"", ["cborn: read failed"], [FOLDER], 4),
-    ("show --one .", b"", ["cborn: read failed"], [FOLDER], 4),
+    *((words, b"", ["cborn: read failed"], [FOLDER], 4) for words in ("check .", "show --one .")),
     ("compare . items", b"", ["cborn: first: read failed"], [FOLDER], 4),
-    ("compare items .", b"", ["cborn: second: read failed"], [FOLDER], 4),
-    ("compare --one items .", b"", ["cborn: second: read failed"], [FOLDER], 4),
+    *((words, b"", ["cborn: second: read failed"], [FOLDER], 4) for words in ("compare items .", "compare --one items .")),
     ("check items .", b"", ["cborn: .: read failed"], [FOLDER], 4),
     ("normalise items -o .", b"", ["cborn: write failed"], [FOLDER], 4),
     ("normalise -o none/none", b"\x01", ["cborn: write failed"], [], 4),
@@ -151,18 +138,12 @@ def on_terminal(command, given, folder, out=subprocess.PIPE):
         os.close(theirs)
         out, _ = run.communicate(given)
     told = b""
-    while piece := read_piece(ours):
-        told += piece
+    # a read fails where the other side of the terminal is closed
+    with contextlib.suppress(OSError):
+        while piece := os.read(ours, 4096):
+            told += piece
     os.close(ours)
     return out, told.replace(b"\r\n", b"\n"), run.returncode
-
-
-def read_piece(terminal):
-    """The next bytes, or none where the other side of the terminal is closed."""
-    try:
-        return os.read(terminal, 4096)
-    except OSError:
-        return b""
 
 
 def said(lines):
@@ -196,10 +177,8 @@ def wrong_outputs(program, folder):
 
 def left_in(file):
     """The bytes of a file, which is then removed. None where there is no file."""
-    if not file.exists():
-        return None
-    data = file.read_bytes()
-    file.unlink()
+    data = file.read_bytes() if file.exists() else None
+    file.unlink(missing_ok=True)
     return data
 
 
@@ -209,8 +188,8 @@ def main():
         for name, data in FILES.items():
             pathlib.Path(folder, name).write_bytes(data)
         wrong = [*wrong_runs(program, folder), *wrong_outputs(program, folder)]
-    print(*wrong, sep="\n", end="\n" if wrong else "")
-    print(f"{len(CASES) + len(OUTPUTS)} runs with a terminal and without passed, {len(wrong)} lines of what is wrong")
+    summary = f"{len(CASES) + len(OUTPUTS)} runs with a terminal and without passed, {len(wrong)} lines of what is wrong"
+    print(*wrong, summary, sep="\n")
     return 1 if wrong else 0
 
 

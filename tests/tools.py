@@ -37,9 +37,8 @@ OPTIONAL = {
 def is_there(tool):
     if tool in ("pip", "mypy", "setuptools", "wheel"):
         return importlib.util.find_spec(tool) is not None
-    if tool == "Python.h":
-        return os.path.isfile(os.path.join(sysconfig.get_path("include"), tool))
-    return shutil.which(tool) is not None or os.path.isfile(tool)
+    path = os.path.join(sysconfig.get_path("include"), tool) if tool == "Python.h" else tool
+    return shutil.which(tool) is not None or os.path.isfile(path)
 
 
 def missing(what):

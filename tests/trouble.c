@@ -1,11 +1,15 @@
-/* Makes trouble for one call of open, read or write, or of what else puts a new file in the place of another: the tests
-   load it before the C library (glibc).
+/* Makes trouble for one call of open, read or write, or of what else puts a new file in the place of another, or refuses one
+   request for memory: the tests load it before the C library (glibc).
 
    The NTH of these calls, from 1, has the trouble KIND: 'fail' and 'interrupt' answer an error, 'short' moves
    one byte at most, and 'nothing' takes no byte of a write. A line goes to the file descriptor TELL then: the
    call's name, its descriptor (0 where it has none), how many files the program had tried to open, and how many bytes it
-   had written to that descriptor. To open a file that is made is called 'create', and doesn't count as an opening. With NTH 0 the line is 'calls N', when the program ends. Standard input gives no more
-   at one time than a pipe holds, so that a long one is read as often in each run. */
+   had written to that descriptor. To open a file that is made is called 'create', and doesn't count as an opening. With NTH 0
+   the line is 'calls N', when the program ends. Standard input gives no more at one time than a pipe holds, so that a long one
+   is read as often in each run.
+
+   With the KIND 'refuse' the NTH call of malloc or realloc gets a null pointer, and no other call has trouble. The line is how
+   many bytes it asked for, and how many files the program had opened. */
 #define _GNU_SOURCE
 #include <errno.h>
 #include <stdarg.h>
@@ -20,7 +24,10 @@
 #define DESCRIPTORS 16
 #define PIPE 65536
 
-static long nth, calls, tried, written[DESCRIPTORS];
+void *__libc_malloc(size_t size);
+void *__libc_realloc(void *old, size_t size);
+
+static long nth, calls, requests, tried, opened, written[DESCRIPTORS];
 static int tell = -1;
 static const char *kind = "";
 
@@ -49,16 +56,13 @@ __attribute__((destructor)) static void end(void)
         say(line, snprintf(line, sizeof line, "calls %ld\n", calls));
 }
 
-static int is_kind(const char *word)
-{
-    return strcmp(kind, word) == 0;
-}
+static int is_kind(const char *word) { return strcmp(kind, word) == 0; }
 
 /* Whether this call is the one, which it then tells. */
 static int is_troubled(const char *name, int fd)
 {
     char line[128];
-    if (++calls != nth)
+    if (is_kind("refuse") || ++calls != nth)
         return 0;
     long before = fd >= 0 && fd < DESCRIPTORS ? written[fd] : 0;
     say(line, snprintf(line, sizeof line, "%s %d %ld %ld\n", name, fd, tried, before));
@@ -74,6 +78,21 @@ static int is_error(int code)
     return 1;
 }
 
+static int is_refused(size_t size)
+{
+    char line[64];
+    if (!is_kind("refuse") || ++requests != nth)
+        return 0;
+    say(line, snprintf(line, sizeof line, "%zu %ld\n", size, opened));
+    return 1;
+}
+
+void *malloc(size_t size) { return is_refused(size) ? NULL : __libc_malloc(size); }
+void *realloc(void *old, size_t size) { return is_refused(size) ? NULL : __libc_realloc(old, size); }
+
+/* Whether this call has an error. */
+static int is_failed(const char *name, int fd, int code) { return is_troubled(name, fd) && is_error(code); }
+
 int open(const char *path, int flags, ...)
 {
     va_list rest;
@@ -81,34 +100,25 @@ int open(const char *path, int flags, ...)
     int mode = flags & O_CREAT ? va_arg(rest, int) : 0;
     va_end(rest);
     int is_made = flags & O_CREAT;
-    int has_failed = is_troubled(is_made ? "create" : "open", 0) && is_error(EMFILE);
+    int has_failed = is_failed(is_made ? "create" : "open", 0, EMFILE);
     tried += !is_made;
-    return has_failed ? -1 : (int)syscall(SYS_openat, AT_FDCWD, path, flags, mode);
+    int fd = has_failed ? -1 : (int)syscall(SYS_openat, AT_FDCWD, path, flags, mode);
+    opened += fd >= 0;
+    return fd;
 }
 
-int fsync(int fd)
-{
-    return is_troubled("fsync", fd) && is_error(EIO) ? -1 : (int)syscall(SYS_fsync, fd);
-}
-
-int fchmod(int fd, mode_t mode)
-{
-    return is_troubled("fchmod", fd) && is_error(EPERM) ? -1 : (int)syscall(SYS_fchmod, fd, mode);
-}
-
-int rename(const char *from, const char *to)
-{
-    return is_troubled("rename", 0) && is_error(EACCES) ? -1 : (int)syscall(SYS_rename, from, to);
-}
+int fsync(int fd) { return is_failed("fsync", fd, EIO) ? -1 : (int)syscall(SYS_fsync, fd); }
+int fchmod(int fd, mode_t mode) { return is_failed("fchmod", fd, EPERM) ? -1 : (int)syscall(SYS_fchmod, fd, mode); }
+int rename(const char *from, const char *to) { return is_failed("rename", 0, EACCES) ? -1 : (int)syscall(SYS_rename, from, to); }
 
 ssize_t readlink(const char *path, char *text, size_t size)
 {
-    return is_troubled("readlink", 0) && is_error(EACCES) ? -1 : syscall(SYS_readlink, path, text, size);
+    return is_failed("readlink", 0, EACCES) ? -1 : syscall(SYS_readlink, path, text, size);
 }
 
 int statx(int fd, const char *path, int flags, unsigned mask, struct statx *found)
 {
-    return is_troubled("statx", 0) && is_error(EACCES) ? -1 : (int)syscall(SYS_statx, fd, path, flags, mask, found);
+    return is_failed("statx", 0, EACCES) ? -1 : (int)syscall(SYS_statx, fd, path, flags, mask, found);
 }
 
 ssize_t read(int fd, void *buffer, size_t size)
@@ -119,7 +129,8 @@ ssize_t read(int fd, void *buffer, size_t size)
         if (is_kind("short") && size > 1)
             size = 1;
     }
-    return syscall(SYS_read, fd, buffer, fd == STDIN_FILENO && size > PIPE ? PIPE : size);
+    int is_cut = fd == STDIN_FILENO && size > PIPE && !is_kind("refuse");
+    return syscall(SYS_read, fd, buffer, is_cut ? PIPE : size);
 }
 
 ssize_t write(int fd, const void *bytes, size_t size)

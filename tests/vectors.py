@@ -1,7 +1,7 @@
 #!/usr/bin/env python3
 """Give each front of each worked input to the built program, and compare what it answers with fronts.vectors.
 
-    vectors.py PROGRAM [FILE..]
+    vectors.py PROGRAM
     vectors.py --inputs     writes the inputs into a module of crates/cborn_tests, which loads each front of each
     vectors.py --check      fails where that module isn't what --inputs writes
 
@@ -10,7 +10,6 @@ Each front is an input of `show --to wire`, of `normalise`, of `compare` on both
 reading.py, which has nothing of the program; of a text, from the bytes that the text spells which `show` makes of it.
 fronts.vectors says how its lines are read.
 """
-import itertools
 import pathlib
 import sys
 import tempfile
@@ -45,11 +44,6 @@ def refusals(answer, length):
     return line_of(answer, length), line_of(answer, length)
 
 
-def of_side(which, refusal):
-    """The line of a refusal where the input is one of two."""
-    return refusal.replace(b"cborn: ", f"cborn: {which}: ".encode(), 1)
-
-
 def wanted(kind, front, spelled, answer, other):
     """Each command line on a front that spells these bytes, the content of the file `other` for it, and its outcome."""
     shown, normalised = refusals(answer, len(front))
@@ -58,8 +52,9 @@ def wanted(kind, front, spelled, answer, other):
     if normalised is not None:
         refused = Outcome(b"", normalised, 2)
         yield ["normalise", "--from", kind], None, refused
-        yield ["compare", "--from-a", kind, "/dev/stdin", other], b"", Outcome(b"", of_side("first", normalised), 2)
-        yield ["compare", "--from-b", kind, other, "/dev/stdin"], b"", Outcome(b"", of_side("second", normalised), 2)
+        first, second = (refused._replace(stderr=normalised.replace(b"cborn:", b"cborn: %s:" % it, 1)) for it in (b"first", b"second"))
+        yield ["compare", "--from-a", kind, "/dev/stdin", other], b"", first
+        yield ["compare", "--from-b", kind, other, "/dev/stdin"], b"", second
         if kind == "wire":
             yield ["check"], None, refused
         return
@@ -82,27 +77,25 @@ def fronts(path):
                 yield kind, content[:length], answer
 
 
-def spelled_as_shown(served, kind, text):
-    """The bytes that a text spells once it is shown: those that it has to spell itself."""
-    shown = served.run(["show", "--from", kind], text).stdout
-    return served.run(["show", "--to", "wire", "--from", "notation"], shown).stdout
-
-
-def tried(library, program, those):
-    """Some fronts: how many answers there were, and a line for each wrong one."""
-    count, wrong = 0, []
-    with tempfile.TemporaryDirectory() as folder, shared.Served(library, program) as served:
+def answered(served, those):
+    """Some fronts: each with how many answers there were, and the wrong ones."""
+    with tempfile.TemporaryDirectory() as folder:
         other = pathlib.Path(folder, "other")
         for kind, front, answer in those:
-            spelled = front if kind == "wire" else spelled_as_shown(served, kind, front)
+            spelled = front
+            if kind != "wire":
+                # a text has to spell what it spells once it is shown
+                shown = served.run(["show", "--from", kind], front).stdout
+                spelled = served.run(["show", "--to", "wire", "--from", "notation"], shown).stdout
+            count, wrong = 0, []
             for words, beside, right in wanted(kind, front, spelled, answer, str(other)):
                 if beside is not None:
                     other.write_bytes(beside)
                 count += 1
                 outcome = served.run(words, front)
                 if outcome != right:
-                    wrong.append(f"{kind} {front!r}: {' '.join(words)}: {outcome}, not {right} ({answer})")
-    return count, wrong
+                    wrong.append(f"{' '.join(words)}: {outcome}, not {right} ({answer})")
+            yield f"{kind} {front!r}", count, wrong
 
 
 def literal(content):
@@ -137,10 +130,8 @@ def main():
             print(f"{module}: isn't what tests/vectors.py --inputs writes")
             return 1
         return 0
-    program = str(pathlib.Path(sys.argv[1]).resolve())
-    paths = [pathlib.Path(name) for name in sys.argv[2:]] or [here / "fronts.vectors"]
-    with shared.library("serve.c") as library:
-        count, wrong = shared.over_processors(tried, itertools.chain.from_iterable(map(fronts, paths)), library, program, at_once=256)
+    those = fronts(here / "fronts.vectors")
+    *_, count, wrong = shared.served_over_processors(answered, those, sys.argv[1], "serve.c", at_once=256)
     return shared.status(count, wrong, f"{count - len(wrong)} answers to fronts passed")
 
 
