@@ -280,7 +280,8 @@ pub(crate) fn end_of_string(profile: Profile, text: &[u8], at: usize) -> Option<
     white_space_after(profile, text, at)
 }
 
-/// The same as `end_of_string`, out of line, since a comma or a bracket mostly follows at once.
+/// The offset after the white space and comments from the offset `at` on, where a string has ended. `None`
+/// if an indicator, or what may be another piece, follows. Out of line, since mostly none of it does.
 #[inline(never)]
 fn white_space_after(profile: Profile, text: &[u8], at: usize) -> Option<usize>
     requires { at ≤ length text.now }

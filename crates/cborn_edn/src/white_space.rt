@@ -129,7 +129,8 @@ fn slashed_end(profile: Profile, text: &[u8], at: usize) -> Option<usize>
     long_end(profile, text, at)
 }
 
-/// The same as `slashed_end`, out of line, however long the comment is.
+/// The offset after the comment between slashes that begins at the offset `at`, however long it is. `None`
+/// if no slash closes it. Out of line, since most comments are short.
 #[tactic(auto, using(crate::proofs::Reader::CommonTokens::comment_here, crate::proofs::Common::take_rest))]
 #[inline(never)]
 fn long_end(profile: Profile, text: &[u8], at: usize) -> Option<usize>

@@ -124,7 +124,8 @@ fn integer(negative: bool, body: &[u8]) -> Result<u128, LexReason>
     }
 }
 
-/// The same as `integer_at`, of any form, and out of line, as most integers are decimal and short.
+/// Reads an integer of any form after its minus, and gives how many bytes of `body` it takes. Out of
+/// line, since most are decimal and short.
 #[tactic(auto, using(crate::proofs::Decimals::digits_pass))]
 #[inline(never)]
 fn any_integer(negative: bool, body: &[u8]) -> (Result<u128, LexReason>, usize)

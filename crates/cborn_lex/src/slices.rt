@@ -122,7 +122,8 @@ pub fn mark_at(x: &[u8]) -> (Option<Mark>, usize)
     underscored_mark(x)
 }
 
-/// The same as `mark_at` after an underscore, out of line, since few tokens have an indicator.
+/// The encoding indicator that the underscore at the front of `x` begins, and its length in bytes. `None`
+/// in its place if it is none. Out of line, since few tokens have one.
 #[tactic(auto, using(crate::proofs::TwoParts::long_mark, crate::proofs::TwoParts::underscored))]
 #[inline(never)]
 fn underscored_mark(x: &[u8]) -> (Option<Mark>, usize)

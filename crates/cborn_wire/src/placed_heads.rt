@@ -36,7 +36,8 @@ pub fn set_head(
     set_wide_head(out, major, least, n, start)
 }
 
-/// What `set_head` does. Out of line, since most heads are one byte.
+/// Puts a head of any length in the place of the byte at the offset `start`. What follows that byte is
+/// moved if the head is longer. Out of line, since most heads are one byte.
 #[inline(never)]
 fn set_wide_head(
     out: &mut Vec<u8>,
